@@ -1,0 +1,21 @@
+use mathlib.Core.Path.{sym, ap, _∙_}
+use Rattle.train.specs.Names.{wellFormed}
+use Rattle.train.specs.declared.refusal.Reason.the-variants.{NameForm}
+use Rattle.train.specs.Refusals.{breach, alone}
+use Rattle.train.proofs.Rules.{each-past, each-here, each-all}
+use Rattle.train.proofs.checks.names_well_formed.Needs as need
+
+pub returns-then-not-well-formed : need.returns-then-not-well-formed
+returns-then-not-well-formed g c =
+    sym (ap (breach (c .args .part)) (c .loop-i .inv)
+    ∙ each-here (alone (λ x. wellFormed (g .T·Labelled .labels x))) NameForm (c .args .entries .now) (c .loop-i .i) (c .args .part) (c .index-entries-i .result) _ (c .index-entries-i .is) (c .loop-i-test .taken) (sym (c .if-not-well-formed .ensures tt .value ∙ ap wellFormed (c .label .ensures))))
+
+pub loop-i-again : need.loop-i-again
+loop-i-again g c =
+    c .loop-i .inv
+    ∙ each-past (alone (λ x. wellFormed (g .T·Labelled .labels x))) NameForm (c .args .entries .now) (c .loop-i .i) (c .index-entries-i .result) _ (c .index-entries-i .is) (c .loop-i-test .taken) (sym (c .if-not-well-formed .ensures tt .value ∙ ap wellFormed (c .label .ensures)))
+
+pub returns : need.returns
+returns g c =
+    sym (ap (breach (c .args .part)) (c .loop-i .inv)
+    ∙ each-all (alone (λ x. wellFormed (g .T·Labelled .labels x))) NameForm (c .args .entries .now) (c .loop-i .i) (c .args .part) (c .loop-i-test .left))
