@@ -103,3 +103,7 @@ four-bytes r p q s t hr hp hq hs ht =
     ∙ ap (λ (x : ℕ). bitXor (bitXor a p * 2 ^ 24) (bitXor (bitXor b q * 2 ^ 16) (bitXor x (bitXor d t)))) ss in
     gathered r p q s t hp hq hs ht ∙ ap (bitSteps 32) placed
     ∙ apart (bitXor a p) (bitXor b q) (bitXor c s) (bitXor d t) (xor-lt 8 a p (omega arith) hp) (xor-lt 8 b q (omega arith) hq) (xor-lt 8 c s (omega arith) hs) (xor-lt 8 d t (omega arith) ht)
+
+pub joined : (a b c d p q s t : ℕ) → a ≡ p → b ≡ q → c ≡ s → d ≡ t
+    → bitXor a (bitXor b (bitXor c d)) ≡ bitXor p (bitXor q (bitXor s t))
+joined a b c d p q s t ea eb ec ed = cc
