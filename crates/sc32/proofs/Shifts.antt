@@ -1,8 +1,8 @@
 -- What a low part, too low to reach the top bit, does to the register: it moves left, and nothing else.
 -- Assumes nothing.
-use mathlib.Core.Path.{_≡_, refl, sym, _∙_, ap, subst}
+use mathlib.Core.Path.{_≡_, refl, sym, _∙_, ap}
 use mathlib.Core.Bool.{Bool, true, false, cond}
-use Prim.Native.Nat.{ℕ, zero, suc, _+_, _*_, _/_, _%_, _^_, _<_}
+use Prim.Native.Nat.{ℕ, zero, suc, _*_, _/_, _%_, _^_, _<_}
 use native.Mathlib.Nat.{add-zero, mul-assoc, mul-one, pow-suc}
 use native.Mathlib.Omega.{arith}
 use lib.Dec.{eqb}
