@@ -1,0 +1,6 @@
+mod Feeds
+mod Four
+mod Linear
+mod Shifts
+mod Table
+mod Values
