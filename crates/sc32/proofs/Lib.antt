@@ -1,4 +1,4 @@
-mod Feeds
+pub mod Feeds
 mod Four
 mod Linear
 mod Shifts
