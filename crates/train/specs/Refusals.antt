@@ -41,6 +41,10 @@ number ListOrder = 22
 number InsertedInside = 23
 number BufferShort = 24
 
+-- a refusal at a place that is counted, or 0
+abbrev pub refusedAt : Part → Reason → ℕ → Refusal
+refusedAt part reason n = record { part = part; reason = reason; place = At n }
+
 -- A check that a call makes: whether it is met and, where it is not, the reason and the place of the refusal.
 pub record Check : Type 0 where
   pub ok : Bool

@@ -16,7 +16,6 @@ use crate::name::Name;
 use crate::name::well_formed;
 use crate::octets;
 use crate::refusal::Part;
-use crate::refusal::Place;
 use crate::refusal::Reason;
 use crate::refusal::Refusal;
 
@@ -82,11 +81,7 @@ pub fn facings_known<T: Faced>(part: Part, entries: &[T]) -> Result<(), Refusal>
 {
     for (i, x) in entries.iter().enumerate() {
         if !x.way().is_known() {
-            return Err(Refusal {
-                part,
-                reason: Reason::UnknownFacing,
-                place: Place::At(i + 1),
-            });
+            return Err(Refusal::at(part, Reason::UnknownFacing, i + 1));
         }
     }
     Ok(())
@@ -98,11 +93,7 @@ pub fn names_well_formed<T: Labelled>(part: Part, entries: &[T]) -> Result<(), R
 {
     for (i, x) in entries.iter().enumerate() {
         if !well_formed(x.label()) {
-            return Err(Refusal {
-                part,
-                reason: Reason::NameForm,
-                place: Place::At(i + 1),
-            });
+            return Err(Refusal::at(part, Reason::NameForm, i + 1));
         }
     }
     Ok(())
@@ -126,11 +117,7 @@ pub fn labels_apart<T: Labelled>(part: Part, entries: &[T]) -> Result<(), Refusa
 {
     for (i, x) in entries.iter().enumerate() {
         if stands_among(x, &entries[0..i]) {
-            return Err(Refusal {
-                part,
-                reason: Reason::Repeated,
-                place: Place::At(i + 1),
-            });
+            return Err(Refusal::at(part, Reason::Repeated, i + 1));
         }
     }
     Ok(())

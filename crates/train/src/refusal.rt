@@ -1,7 +1,7 @@
 // Why a call is refused, and where.
 ghost use mathlib.Core.Path.{_≡_};
 ghost use lib.Dec.{eqb};
-ghost use Rattle.train.specs.Refusals.{number as numbered};
+ghost use Rattle.train.specs.Refusals.{number as numbered, refusedAt};
 
 /// The part whose call it is.
 #[derive(Clone, Copy, PartialEq, Eq, Debug)]
@@ -96,4 +96,17 @@ pub struct Refusal {
     pub part: Part,
     pub reason: Reason,
     pub place: Place,
+}
+
+impl Refusal {
+    /// A refusal at a place that is counted, or 0 where none is named.
+    pub fn at(part: Part, reason: Reason, place: usize) -> Refusal
+        ensures { λ r. ⌜ r ≡ refusedAt part reason place ⌝ }
+    {
+        Refusal {
+            part,
+            reason,
+            place: Place::At(place),
+        }
+    }
 }

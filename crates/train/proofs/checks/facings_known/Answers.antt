@@ -1,3 +1,4 @@
+use Rattle.std.specs.declared.option.Option.the-variants.{Some}
 use mathlib.Core.Path.{sym, ap, _∙_}
 use Rattle.train.specs.Facings.{known}
 use Rattle.train.specs.declared.refusal.Reason.the-variants.{UnknownFacing}
@@ -7,7 +8,8 @@ use Rattle.train.proofs.checks.facings_known.Needs as need
 
 pub returns-then-not-is-known : need.returns-then-not-is-known
 returns-then-not-is-known g c =
-    sym (ap (breach (c .args .part)) (c .loop-i .inv)
+    ap Some (c .at .ensures)
+    ∙ sym (ap (breach (c .args .part)) (c .loop-i .inv)
     ∙ each-here (alone (λ x. known (g .T·Faced .faces x))) UnknownFacing (c .args .entries .now) (c .loop-i .i) (c .args .part) (c .index-entries-i .result) _ (c .index-entries-i .is) (c .loop-i-test .taken) (sym (c .if-not-is-known .ensures tt ∙ ap known (c .way .ensures))))
 
 pub loop-i-again : need.loop-i-again

@@ -1,3 +1,4 @@
+use Rattle.std.specs.declared.option.Option.the-variants.{Some}
 use mathlib.Core.Path.{_≡_, sym, ap, _∙_}
 use mathlib.Core.Bool.{Bool, true, false, not}
 use mathlib.Core.List.{List}
@@ -19,7 +20,8 @@ told alike xs i x b e =
 pub returns-then-stands-among : need.returns-then-stands-among
 returns-then-stands-among g c =
     let alike = by sameBytes (g .T·Labelled .labels) in
-    sym (ap (breach (c .args .part)) (c .loop-i .inv)
+    ap Some (c .at .ensures)
+    ∙ sym (ap (breach (c .args .part)) (c .loop-i .inv)
     ∙ each-here (fresh alike) Repeated (c .args .entries .now) (c .loop-i .i) (c .args .part) (c .index-entries-i .result) _ (c .index-entries-i .is) (c .loop-i-test .taken)
     (told alike (c .args .entries .now) (c .loop-i .i) (c .index-entries-i .result) true (c .if-stands-among .ensures tt)))
 

@@ -1,3 +1,4 @@
+use Rattle.std.specs.declared.option.Option.the-variants.{Some}
 use mathlib.Core.Path.{sym, ap, _∙_}
 use Rattle.train.specs.Names.{wellFormed}
 use Rattle.train.specs.declared.refusal.Reason.the-variants.{NameForm}
@@ -7,7 +8,8 @@ use Rattle.train.proofs.checks.names_well_formed.Needs as need
 
 pub returns-then-not-well-formed : need.returns-then-not-well-formed
 returns-then-not-well-formed g c =
-    sym (ap (breach (c .args .part)) (c .loop-i .inv)
+    ap Some (c .at .ensures)
+    ∙ sym (ap (breach (c .args .part)) (c .loop-i .inv)
     ∙ each-here (alone (λ x. wellFormed (g .T·Labelled .labels x))) NameForm (c .args .entries .now) (c .loop-i .i) (c .args .part) (c .index-entries-i .result) _ (c .index-entries-i .is) (c .loop-i-test .taken) (sym (c .if-not-well-formed .ensures tt .value ∙ ap wellFormed (c .label .ensures))))
 
 pub loop-i-again : need.loop-i-again
