@@ -4,16 +4,18 @@ ghost use mathlib.Core.Path.{_≡_};
 ghost use mathlib.Core.List.{List};
 ghost use Prim.Native.Nat.{ℕ};
 ghost use Rattle.train.specs.Facings.{known};
+ghost use Rattle.train.specs.Identities.{isIdentity};
 ghost use Rattle.train.specs.Names.{wellFormed};
-ghost use Rattle.train.specs.Refusals.{refusalOf, breach, each, alone, among, fresh, by};
+ghost use Rattle.train.specs.Refusals.{refusalOf, breach, must, each, alone, among, fresh, by};
 ghost use Rattle.train.specs.declared.facing.Facing.{Facing};
-ghost use Rattle.train.specs.declared.refusal.Reason.the-variants.{NameForm, UnknownFacing, Repeated};
+ghost use Rattle.train.specs.declared.refusal.Reason.the-variants.{IdentityOrder, NameForm, UnknownFacing, Repeated};
 ghost use Rattle.std.specs.shelf.Text.{sameBytes};
 use crate::entries::Coupled;
 use crate::entries::Vehicle;
 use crate::facing::Facing as Way;
+use crate::identity;
+use crate::name;
 use crate::name::Name;
-use crate::name::well_formed;
 use crate::octets;
 use crate::refusal::Part;
 use crate::refusal::Reason;
@@ -75,6 +77,17 @@ pub impl Faced for Coupled as CoupledFaced {
     }
 }
 
+/// A check that names no place.
+pub fn require(part: Part, ok: bool, reason: Reason) -> Result<(), Refusal>
+    ensures { λ r. ⌜ refusalOf r ≡ breach part (must ok reason) ⌝ }
+{
+    if ok {
+        Ok(())
+    } else {
+        Err(Refusal::at(part, reason, 0))
+    }
+}
+
 /// Every entry faces direct or inverse.
 pub fn facings_known<T: Faced>(part: Part, entries: &[T]) -> Result<(), Refusal>
     ensures { λ r. ⌜ refusalOf r ≡ breach part (each (alone (λ x. known (T·Faced .faces x))) UnknownFacing (now (entries .entry))) ⌝ }
@@ -87,12 +100,24 @@ pub fn facings_known<T: Faced>(part: Part, entries: &[T]) -> Result<(), Refusal>
     Ok(())
 }
 
+/// Every label is an identity that a consist may have.
+pub fn identities_well_formed<T: Labelled>(part: Part, entries: &[T]) -> Result<(), Refusal>
+    ensures { λ r. ⌜ refusalOf r ≡ breach part (each (alone (λ x. isIdentity (T·Labelled .labels x))) IdentityOrder (now (entries .entry))) ⌝ }
+{
+    for (i, x) in entries.iter().enumerate() {
+        if !identity::well_formed(x.label()) {
+            return Err(Refusal::at(part, Reason::IdentityOrder, i + 1));
+        }
+    }
+    Ok(())
+}
+
 /// Every label is a well-formed name.
 pub fn names_well_formed<T: Labelled>(part: Part, entries: &[T]) -> Result<(), Refusal>
     ensures { λ r. ⌜ refusalOf r ≡ breach part (each (alone (λ x. wellFormed (T·Labelled .labels x))) NameForm (now (entries .entry))) ⌝ }
 {
     for (i, x) in entries.iter().enumerate() {
-        if !well_formed(x.label()) {
+        if !name::well_formed(x.label()) {
             return Err(Refusal::at(part, Reason::NameForm, i + 1));
         }
     }

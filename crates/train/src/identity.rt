@@ -2,7 +2,8 @@
 ghost use mathlib.Core.Path.{_≡_};
 ghost use Rattle.std.specs.declared.option.Option.the-variants.{Some};
 ghost use Rattle.std.specs.shelf.Text.{sameBytes};
-ghost use Rattle.train.specs.Octets.{ranked, zeros};
+ghost use Rattle.train.specs.Identities.{isIdentity};
+ghost use Rattle.train.specs.Octets.{ranked};
 use crate::octets;
 use std::cmp::Ordering;
 
@@ -12,12 +13,19 @@ pub struct Identity {
     pub bytes: [u8; 16],
 }
 
+/// Whether these bytes are a consist's identity: sixteen, and not all zero.
+pub fn well_formed(bytes: &[u8]) -> bool
+    ensures { λ r. ⌜ r ≡ isIdentity (now (bytes .entry)) ⌝ }
+{
+    bytes.len() == 16 && !octets::is_zero(bytes)
+}
+
 impl Identity {
-    /// Whether all its bytes are zero.
-    pub fn is_zero(&self) -> bool
-        ensures { λ r. ⌜ r ≡ sameBytes (now (self .entry) .bytes) zeros ⌝ }
+    /// Whether a consist may have it.
+    pub fn is_well_formed(&self) -> bool
+        ensures { λ r. ⌜ r ≡ isIdentity (now (self .entry) .bytes) ⌝ }
     {
-        octets::is_zero(&self.bytes)
+        well_formed(&self.bytes)
     }
 }
 

@@ -139,9 +139,9 @@ mod tests {
         check(identity(255) < high)?;
         check(identity(1) < identity(2))?;
         check(!(identity(2) < identity(2)))?;
-        check(identity(0).is_zero())?;
-        check(!identity(1).is_zero())?;
-        check(!high.is_zero())
+        check(!identity(0).is_well_formed())?;
+        check(identity(1).is_well_formed())?;
+        check(high.is_well_formed())
     }
 
     fn refused(part: Part, reason: Reason, place: usize) -> Result<(), Refusal> {
