@@ -12,6 +12,8 @@ use Rattle.train.specs.declared.refusal.Part.{Part}
 use Rattle.train.specs.declared.refusal.Place.the-variants.{At}
 use Rattle.train.specs.declared.refusal.Reason.{Reason}
 use Rattle.train.specs.declared.refusal.Refusal.{Refusal}
+use Rattle.std.proofs.shelf.Tests.{and-from}
+use Rattle.train.specs.Names.{every}
 use Rattle.train.specs.Refusals.{Check, Rule, each, eachBehind, breach, orElse, refusal, among}
 
 -- `x` is the entry at i, as the code has it
@@ -54,3 +56,35 @@ refusal-joined part (c ∷ cs) ds = by (breach part c) (refusal-joined part cs d
         → orElse o (refusal part (cs ++ ds)) ≡ orElse (orElse o (refusal part cs)) (refusal part ds)
     by None e = e
     by (Some r) e = refl
+
+-- a call that was carried out met every check, and one that was refused did not
+step-met : (part : Part) (c : Check) (rest : Option Refusal) (b : Bool) → c .ok ≡ b → None ≡ orElse (breach part c) rest → (b ≡ true) × (None ≡ rest)
+step-met part c rest true e h = (refl, rw e at h)
+step-met part c rest false e h = let k = rw e at h in let z : _≡_ {A = ℕ} 0 1 = cc in absurd (omega arith)
+
+pub all-met : (part : Part) (cs : List Check) → None ≡ refusal part cs → every (λ c. c .ok) cs ≡ true
+all-met part [] h = refl
+all-met part (c ∷ cs) h =
+    let w = step-met part c (refusal part cs) (c .ok) refl h in
+    and-from (c .ok) (every (λ c. c .ok) cs) (w .0) (all-met part cs (w .1))
+
+step-unmet : (part : Part) (c : Check) (r : Refusal) (rest : Option Refusal) (others b : Bool) → c .ok ≡ b → (Some r ≡ rest → others ≡ false)
+    → Some r ≡ orElse (breach part c) rest → (b && others) ≡ false
+step-unmet part c r rest others true e f h = f (rw e at h)
+step-unmet part c r rest others false e f h = refl
+
+pub not-all-met : (part : Part) (cs : List Check) (r : Refusal) → Some r ≡ refusal part cs → every (λ c. c .ok) cs ≡ false
+not-all-met part [] r h = let z : _≡_ {A = ℕ} 0 1 = cc in absurd (omega arith)
+not-all-met part (c ∷ cs) r h = step-unmet part c r (refusal part cs) (every (λ c. c .ok) cs) (c .ok) refl (not-all-met part cs r) h
+
+-- the checks of a call in two parts: the first part refuses it, or what is left answers
+pub first-refuses : (part : Part) (cs ds : List Check) (r : Refusal) → Some r ≡ refusal part cs → Some r ≡ refusal part (cs ++ ds)
+first-refuses part cs ds r h = sym (refusal-joined part cs ds ∙ ap (λ o. orElse o (refusal part ds)) (sym h))
+
+orElse-none : {A : Type 0} (o : Option A) → orElse o None ≡ o
+orElse-none None = refl
+orElse-none (Some x) = refl
+
+pub last-answers : (part : Part) (cs : List Check) (c : Check) (o : Option Refusal) → None ≡ refusal part cs → o ≡ breach part c → o ≡ refusal part (cs ++ c ∷ [])
+last-answers part cs c o h e =
+    e ∙ sym (refusal-joined part cs (c ∷ []) ∙ ap (λ q. orElse q (refusal part (c ∷ []))) (sym h) ∙ orElse-none (breach part c))

@@ -1,0 +1,5 @@
+pub mod Table
+pub mod Calls
+pub mod Facts
+pub mod Shown
+pub mod Standing
