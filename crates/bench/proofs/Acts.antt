@@ -58,7 +58,7 @@ front-copied xs copied rest e = ap (λ z. take (length xs) (z ++ rest)) e ∙ ta
 
 pub fresh-facts : (es : List Coupled) (table : List Claim) (etb : ℕ) (formation : List Coupled) → es ≡ formation → table ≡ replicate 63 free
     → _≡_ {A = Facts} (record { etb = etb; formation = es; claims = kept es table; confirmed = [] })
-      (record { etb = etb; formation = formation; claims = λ _. None; confirmed = [] })
+    (record { etb = etb; formation = formation; claims = λ _. None; confirmed = [] })
 fresh-facts es table etb formation e q =
     let none : kept es table ≡ (λ _. None) = ap (kept es) q ∙ none-kept es in
     λ i. record { etb = etb; formation = e i; claims = none i; confirmed = [] }

@@ -1,6 +1,6 @@
 -- The standing facts, read from the calls alone: each fact by itself, as a relation over the run.
 use mathlib.Core.Path.{_≡_}
-use mathlib.Core.Bool.{Bool, true}
+use mathlib.Core.Bool.{Bool, true, _&&_}
 use mathlib.Core.List.{List, [], _∷_, _++_}
 use mathlib.Core.Logic.{_⊎_, _↔_}
 use Prim.Native.Nat.{ℕ, _≤_}
@@ -10,10 +10,12 @@ use Rattle.train.specs.declared.identity.Identity.{Identity}
 use Rattle.train.specs.declared.name.Name.{Name}
 use Rattle.train.specs.declared.entries.Coupled.{Coupled}
 use Rattle.train.specs.Facings.{code}
+use Rattle.train.specs.Identities.{isIdentity}
+use Rattle.train.specs.Names.{every}
 use Rattle.bench.specs.declared.claims.Claim.{Claim}
 use Rattle.bench.specs.Calls.{Call}
 use Rattle.bench.specs.Calls.Call.{inaugurate, claim, yield, confirm, withdraw}
-use Rattle.bench.specs.Facts.{Facts, nothing, accepted, afterAll, coupledIn}
+use Rattle.bench.specs.Facts.{Facts, nothing, accepted, afterAll, coupledIn, checks, listChecks, within}
 
 -- what can stand: an ETB counter with a formation, a claim of a consist, a confirmed list
 pub data Fact : Type 0 where
@@ -87,3 +89,15 @@ pub record StandingLaws (run : List Call) : Type 0 where
   pub formation-or-none : ((n : ℕ) × (es : List Coupled) × Stands run (coupled n es)) ⊎ ((n : ℕ) (es : List Coupled) → Stands run (coupled n es) → ⊥)
   pub claim-or-none : (x : Identity) → ((c : Claim) × Stands run (claimed x c)) ⊎ ((c : Claim) → Stands run (claimed x c) → ⊥)
   pub list-or-none : ((ns : List Name) × Stands run (listed ns)) ⊎ ((ns : List Name) → Stands run (listed ns) → ⊥)
+
+-- a call's arguments are in order, whatever stands
+abbrev pub well : Call → Bool
+well (inaugurate etb es) = every (λ c. c .ok) (checks nothing (inaugurate etb es))
+well (claim x vehicle direction) = isIdentity (x .bytes) && (within 1 32 vehicle && within 1 2 direction)
+well (yield x) = isIdentity (x .bytes)
+well (confirm names) = every (λ c. c .ok) (listChecks names)
+well withdraw = true
+
+-- a next call is accepted exactly where its arguments are in order and what stands lets it be
+abbrev pub AcceptedAsTold : List Call → Type 0
+AcceptedAsTold run = (k : Call) → Taken run k ↔ ((well k ≡ true) × Allowed run k)

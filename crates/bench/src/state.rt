@@ -4,7 +4,8 @@ use crate::claims::Claims;
 use train::entries::Coupled;
 use train::name::Name;
 
-pub mod ops;
+mod ops;
+mod questions;
 
 /// The first `count` entries are the formation, the first `listed` names the confirmed list.
 #[derive(Drop)]

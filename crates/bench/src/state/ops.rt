@@ -1,4 +1,4 @@
-// The calls and questions of a bench.
+// The calls of a bench.
 ghost use mathlib.Core.Path.{_≡_};
 ghost use mathlib.Core.Bool.{true, false, _&&_};
 ghost use Prim.Native.Nat.{_<_, _≤_};
@@ -11,6 +11,7 @@ ghost use Rattle.train.specs.declared.refusal.Part.the-variants.{Bench as OfBen
 ghost use Rattle.bench.specs.Calls.{Call};
 ghost use Rattle.bench.specs.Facts.{nothing, checks as checksOf, placeChecks, listChecks, after, coupledIn, directed, within, some, Place};
 ghost use Rattle.bench.specs.Shown.{shown};
+use super::questions::place_of;
 use super::*;
 use crate::claims::Claim;
 use crate::claims::FREE;
@@ -24,7 +25,6 @@ use train::checks::names_well_formed;
 use train::checks::require;
 use train::facing::Facing;
 use train::identity::Identity;
-use train::identity::IdentityPartialEq;
 use train::refusal::Part;
 use train::refusal::Reason;
 use train::refusal::Refusal;
@@ -34,18 +34,6 @@ const MOST: usize = 63;
 
 /// The last number that a vehicle of a consist can have.
 const LAST: u8 = 32;
-
-/// The place of a consist in a formation.
-fn place_of(formation: &[Coupled], identity: &Identity) -> Option<usize>
-    ensures { λ r. ⌜ BySome r (coupledIn (now (identity .entry)) (now (formation .entry)) ≡ false) (λ i. Place (now (identity .entry)) (now (formation .entry)) i) ⌝ }
-{
-    for (i, entry) in formation.iter().enumerate() {
-        if *identity == entry.identity {
-            return Some(i);
-        }
-    }
-    None
-}
 
 /// The checks of a formation and its counter.
 fn check_formation(etb: u32, formation: &[Coupled]) -> Result<(), Refusal>
@@ -95,55 +83,6 @@ fn claim_for(vehicle: u8, direction: u8) -> Result<Claim, Refusal>
 }
 
 impl Bench {
-    /// Nothing stands on a new bench.
-    pub fn new() -> Bench
-        ensures { λ r. ⌜ shown r ≡ nothing ⌝ }
-    {
-        let identity = Identity { bytes: [0; 16] };
-        Bench {
-            etb: 0,
-            formation: [Coupled {
-                identity,
-                facing: Facing::NotKnown,
-            }; 63],
-            count: 0,
-            claims: Claims::none(),
-            confirmed: [Name { bytes: [0; 16] }; 63],
-            listed: 0,
-        }
-    }
-
-    /// The entries of the formation, in train direction; none where no formation stands.
-    pub fn formation(&self) -> &[Coupled]
-        ensures value { λ r. ⌜ now r ≡ shown (now (self .entry)) .formation ⌝ }
-        ensures few { λ r. ⌜ length (now r) ≤ 63 ⌝ }
-    {
-        let count = self.count;
-        &self.formation[0..count]
-    }
-
-    /// The names of the confirmed list; none where no list stands.
-    pub fn confirmed(&self) -> &[Name]
-        ensures value { λ r. ⌜ now r ≡ shown (now (self .entry)) .confirmed ⌝ }
-        ensures few { λ r. ⌜ length (now r) ≤ 63 ⌝ }
-    {
-        let listed = self.listed;
-        &self.confirmed[0..listed]
-    }
-
-    /// The ETB counter; 0 where no formation stands.
-    pub fn etb_counter(&self) -> u32
-        ensures { λ r. ⌜ r ≡ shown (now (self .entry)) .etb ⌝ }
-    {
-        self.etb
-    }
-
-    fn is_formed(&self) -> bool
-        ensures { λ r. ⌜ r ≡ some (shown (now (self .entry)) .formation) ⌝ }
-    {
-        self.formation().len() >= 1
-    }
-
     /// The place of a consist that a call names.
     fn place_for(&self, identity: &Identity) -> Result<usize, Refusal>
         ensures answer { λ r. ⌜ refusalOf r ≡ refusal OfBench (placeChecks (shown (now (self .entry))) (now (identity .entry))) ⌝ }
@@ -158,16 +97,6 @@ impl Bench {
         match place_of(self.formation(), identity) {
             Some(place) => Ok(place),
             None => Err(Refusal::at(Part::Bench, Reason::NotPresent, 0)),
-        }
-    }
-
-    /// The claim of a consist, if one stands.
-    pub fn claim_of(&self, identity: &Identity) -> Option<Claim>
-        ensures { λ r. ⌜ r ≡ shown (now (self .entry)) .claims (now (identity .entry)) ⌝ }
-    {
-        match place_of(self.formation(), identity) {
-            Some(place) => self.claims.at(place),
-            None => None,
         }
     }
 

@@ -29,7 +29,7 @@ returns-in-Break-place c =
     let h = first-refuses Bench (placeChecks f (c .args .identity)) (range (c .args .vehicle) (c .args .direction) ∷ []) _ (c .in-Break-place .ensures tt .answer) in
     record {
       answer = ap refusalOf (p .1) ∙ ap Some (p .2) ∙ h;
-      facts = refused-keeps f (Call.claim (c .args .identity) (c .args .vehicle) (c .args .direction)) _ h
+      facts = refused-keeps f (Call.claim (c .args .identity) (c .args .vehicle) (c .args .direction)) _ h;
     }
 
 pub returns : need.returns
@@ -41,5 +41,5 @@ returns c =
     let d = c .args .direction in
     let h = last-answers Bench (placeChecks f x) (range v d) None (c .in-Continue-place .ensures tt .answer) (c .in-Continue-claim .ensures tt .answer) in
     let put = claim-put x (f .formation) (c .args .self .now .claims .table) (c .in-Continue-place .place) (c .in-Continue-place .ensures tt .value .0) (c .in-Continue-place .ensures tt .value .2) (c .set .ensures .long)
-        (c .in-Continue-claim .claim) (c .set .last .self .table) v d (c .set .ensures .after) (c .in-Continue-claim .ensures tt .value .0) (c .in-Continue-claim .ensures tt .value .1) in
+    (c .in-Continue-claim .claim) (c .set .last .self .table) v d (c .set .ensures .after) (c .in-Continue-claim .ensures tt .value .0) (c .in-Continue-claim .ensures tt .value .1) in
     record { answer = h; facts = ap (withClaims f) put ∙ taken-does f (Call.claim x v d) h }

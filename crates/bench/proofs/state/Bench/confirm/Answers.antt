@@ -23,9 +23,9 @@ returns c =
     let f = shown (c .args .self .now) in
     let names = c .args .names .now in
     let formed : None ≡ breach Bench (must (some (f .formation)) NoFormation) =
-        c .in-Continue-require .ensures tt ∙ ap (λ b. breach Bench (must b NoFormation)) (c .is-formed .ensures) in
+    c .in-Continue-require .ensures tt ∙ ap (λ b. breach Bench (must b NoFormation)) (c .is-formed .ensures) in
     let h = last-answers Bench (listChecks names) (must (some (f .formation)) NoFormation) None (c .in-Continue-check-list .ensures tt .answer) formed in
     record {
       answer = h;
-      facts = ap (λ ns. record { etb = f .etb; formation = f .formation; claims = f .claims; confirmed = ns }) (front-copied names _ _ (c .copy-from-slice .ensures .after)) ∙ taken-does f (Call.confirm names) h
+      facts = ap (λ ns. record { etb = f .etb; formation = f .formation; claims = f .claims; confirmed = ns }) (front-copied names _ _ (c .copy-from-slice .ensures .after)) ∙ taken-does f (Call.confirm names) h;
     }

@@ -21,7 +21,7 @@ returns-in-Break-check-formation c =
     let h = c .in-Break-check-formation .ensures tt .answer in
     record {
       answer = ap refusalOf (p .1) ∙ ap Some (p .2) ∙ h;
-      facts = refused-keeps (shown (c .args .self .now)) (Call.inaugurate (c .args .etb) (c .args .formation .now)) _ h
+      facts = refused-keeps (shown (c .args .self .now)) (Call.inaugurate (c .args .etb) (c .args .formation .now)) _ h;
     }
 
 pub returns : need.returns
@@ -31,5 +31,5 @@ returns c =
     let h = c .in-Continue-check-formation .ensures tt .answer in
     record {
       answer = h;
-      facts = fresh-facts _ _ (c .args .etb) _ (front-copied (c .args .formation .now) _ _ (c .copy-from-slice .ensures .after)) (c .none-self .ensures) ∙ taken-does f k h
+      facts = fresh-facts _ _ (c .args .etb) _ (front-copied (c .args .formation .now) _ _ (c .copy-from-slice .ensures .after)) (c .none-self .ensures) ∙ taken-does f k h;
     }

@@ -15,5 +15,5 @@ returns-in-Some c =
     let found : coupledIn x (c .formation .result .now) ≡ true = in-at x (c .formation .result .now) (c .in-Some .place) _ (p .inside) (p .here) in
     record {
       answer = search needs;
-      value = (subst (λ es. Place x es (c .in-Some .place)) (c .formation .ensures .value) p, omega (arith, p .inside, c .formation .ensures .few), subst (λ es. length es ≤ 63) (c .formation .ensures .value) (c .formation .ensures .few))
+      value = (subst (λ es. Place x es (c .in-Some .place)) (c .formation .ensures .value) p, omega (arith, p .inside, c .formation .ensures .few), subst (λ es. length es ≤ 63) (c .formation .ensures .value) (c .formation .ensures .few));
     }

@@ -25,9 +25,9 @@ returns-in-Break-require c =
     let x = c .args .identity in
     let place = c .in-Continue-place .ensures tt in
     let held = c .at-held .ensures .value
-        ∙ claim-read x (f .formation) (c .args .self .now .claims .table) (c .in-Continue-place .place) (place .value .0) (place .value .2) (c .at-held .ensures .long) _ in
+    ∙ claim-read x (f .formation) (c .args .self .now .claims .table) (c .in-Continue-place .place) (place .value .0) (place .value .2) (c .at-held .ensures .long) _ in
     let h = last-answers Bench (placeChecks f x) (must (isSome (f .claims x)) NothingStands) (Some (c .in-Break-require .field-0 .0)) (place .answer)
-        (c .in-Break-require .ensures tt ∙ ap (λ b. breach Bench (must b NothingStands)) (c .is-some .ensures ∙ ap isSome held)) in
+    (c .in-Break-require .ensures tt ∙ ap (λ b. breach Bench (must b NothingStands)) (c .is-some .ensures ∙ ap isSome held)) in
     record { answer = ap refusalOf (p .1) ∙ ap Some (p .2) ∙ h; facts = refused-keeps f (Call.yield x) _ h }
 
 pub returns : need.returns
@@ -37,8 +37,8 @@ returns c =
     let table = c .args .self .now .claims .table in
     let place = c .in-Continue-place .ensures tt in
     let held = c .at-held .ensures .value
-        ∙ claim-read x (f .formation) table (c .in-Continue-place .place) (place .value .0) (place .value .2) (c .at-held .ensures .long) _ in
+    ∙ claim-read x (f .formation) table (c .in-Continue-place .place) (place .value .0) (place .value .2) (c .at-held .ensures .long) _ in
     let h = last-answers Bench (placeChecks f x) (must (isSome (f .claims x)) NothingStands) None (place .answer)
-        (c .in-Continue-require .ensures tt ∙ ap (λ b. breach Bench (must b NothingStands)) (c .is-some .ensures ∙ ap isSome held)) in
+    (c .in-Continue-require .ensures tt ∙ ap (λ b. breach Bench (must b NothingStands)) (c .is-some .ensures ∙ ap isSome held)) in
     let put = claim-freed x (f .formation) table (c .in-Continue-place .place) (place .value .0) (place .value .2) (c .set .ensures .long) (c .set .last .self .table) (c .set .ensures .after) in
     record { answer = h; facts = ap (withClaims f) put ∙ taken-does f (Call.yield x) h }

@@ -5,7 +5,7 @@ use Rattle.std.proofs.shelf.Lists.{take-all, getD-default}
 use Rattle.train.specs.Identities.{sameIdentity}
 use Rattle.bench.specs.Facts.{coupledIn}
 use Rattle.bench.proofs.Places.{in-more}
-use Rattle.bench.proofs.state.ops.place_of.Needs as need
+use Rattle.bench.proofs.state.questions.place_of.Needs as need
 
 pub returns-then-eq : need.returns-then-eq
 returns-then-eq c =
