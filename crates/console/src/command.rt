@@ -1,14 +1,36 @@
 // The commands of a script.
 use crate::fields;
+use crate::pieces::Cut;
 use crate::pieces::Pieces;
 use std::alloc::AllocError;
 use std::alloc::Global;
 use train::entries::Coupled;
+use train::identity::Identity;
+use train::name::Name;
 
 #[derive(Drop)]
 pub enum Command {
     Turn(Vec<Coupled>),
-    Sc32 { seed: u32, bytes: Vec<u8> },
+    Sc32 {
+        seed: u32,
+        bytes: Vec<u8>,
+    },
+    Inaugurate {
+        etb: u32,
+        formation: Vec<Coupled>,
+    },
+    Claim {
+        identity: Identity,
+        vehicle: u8,
+        direction: u8,
+    },
+    Yield {
+        identity: Identity,
+    },
+    Confirm {
+        names: Vec<Name>,
+    },
+    Withdraw,
 }
 
 /// A line that is neither blank nor a comment: a call, or the number of a line that is none.
@@ -18,8 +40,11 @@ pub enum Line {
     Error(usize),
 }
 
-/// At least one entry of a formation.
-fn parse_turn(heap: Global, rest: &mut Pieces<'_>) -> Result<Option<Command>, AllocError> {
+/// The entries of a formation.
+fn parse_formation(
+    heap: Global,
+    rest: &mut Pieces<'_>,
+) -> Result<Option<Vec<Coupled>>, AllocError> {
     let mut entries = Vec::new(heap);
     while let Some(field) = rest.next_piece() {
         match fields::coupled(field) {
@@ -27,10 +52,75 @@ fn parse_turn(heap: Global, rest: &mut Pieces<'_>) -> Result<Option<Command>, Al
             None => return Ok(None),
         }
     }
-    if entries.is_empty() {
-        return Ok(None);
+    Ok(Some(entries))
+}
+
+fn parse_names(heap: Global, rest: &mut Pieces<'_>) -> Result<Option<Vec<Name>>, AllocError> {
+    let mut names = Vec::new(heap);
+    while let Some(field) = rest.next_piece() {
+        match fields::name(field) {
+            Some(name) => names.push(name)?,
+            None => return Ok(None),
+        }
     }
-    Ok(Some(Command::Turn(entries)))
+    Ok(Some(names))
+}
+
+/// At least one entry of a formation.
+fn parse_turn(heap: Global, rest: &mut Pieces<'_>) -> Result<Option<Command>, AllocError> {
+    match parse_formation(heap, rest)? {
+        Some(entries) if !entries.is_empty() => Ok(Some(Command::Turn(entries))),
+        _ => Ok(None),
+    }
+}
+
+fn parse_inaugurate(heap: Global, rest: &mut Pieces<'_>) -> Result<Option<Command>, AllocError> {
+    let Some(field) = rest.next_piece() else {
+        return Ok(None);
+    };
+    let Some(etb) = fields::number(field, u32::MAX) else {
+        return Ok(None);
+    };
+    match parse_formation(heap, rest)? {
+        Some(formation) => Ok(Some(Command::Inaugurate { etb, formation })),
+        None => Ok(None),
+    }
+}
+
+fn parse_confirm(heap: Global, rest: &mut Pieces<'_>) -> Result<Option<Command>, AllocError> {
+    match parse_names(heap, rest)? {
+        Some(names) => Ok(Some(Command::Confirm { names })),
+        None => Ok(None),
+    }
+}
+
+fn parse_claim(rest: &mut Pieces<'_>) -> Option<Command> {
+    let identity = fields::identity(rest.next_piece()?)?;
+    let vehicle = fields::small(rest.next_piece()?)?;
+    let direction = fields::small(rest.next_piece()?)?;
+    match rest.next_piece() {
+        None => Some(Command::Claim {
+            identity,
+            vehicle,
+            direction,
+        }),
+        Some(_) => None,
+    }
+}
+
+fn parse_yield(rest: &mut Pieces<'_>) -> Option<Command> {
+    let identity = fields::identity(rest.next_piece()?)?;
+    match rest.next_piece() {
+        None => Some(Command::Yield { identity }),
+        Some(_) => None,
+    }
+}
+
+fn parse_withdraw(rest: &mut Pieces<'_>) -> Option<Command> {
+    match rest.next_piece() {
+        None => Some(Command::Withdraw),
+        Some(_) => None,
+    }
 }
 
 fn parse_sc32(heap: Global, rest: &mut Pieces<'_>) -> Result<Option<Command>, AllocError> {
@@ -48,10 +138,15 @@ fn parse_sc32(heap: Global, rest: &mut Pieces<'_>) -> Result<Option<Command>, Al
 }
 
 fn parse_command(heap: Global, line: &[u8]) -> Result<Option<Command>, AllocError> {
-    let mut rest = Pieces::of(line, b' ');
+    let mut rest = Pieces::of(line, Cut::Fields);
     match rest.next_piece() {
         Some(b"turn") => parse_turn(heap, &mut rest),
         Some(b"sc32") => parse_sc32(heap, &mut rest),
+        Some(b"inaugurate") => parse_inaugurate(heap, &mut rest),
+        Some(b"claim") => Ok(parse_claim(&mut rest)),
+        Some(b"yield") => Ok(parse_yield(&mut rest)),
+        Some(b"confirm") => parse_confirm(heap, &mut rest),
+        Some(b"withdraw") => Ok(parse_withdraw(&mut rest)),
         _ => Ok(None),
     }
 }
@@ -67,7 +162,7 @@ fn is_blank(line: &[u8]) -> bool {
 /// The lines of a script, in order.
 pub fn parse_script(heap: Global, script: &[u8]) -> Result<Vec<Line>, AllocError> {
     let mut lines = Vec::new(heap);
-    let mut pieces = Pieces::of(script, b'\n');
+    let mut pieces = Pieces::of(script, Cut::Lines);
     let mut number = 0usize;
     while let Some(line) = pieces.next_piece() {
         number = number.saturating_add(1);

@@ -6,6 +6,7 @@ use std::alloc::Global;
 use train::entries::Coupled;
 use train::facing::Facing;
 use train::identity::Identity;
+use train::name::Name;
 
 /// The value of a hex digit, 0 to 9 or a to f.
 fn nibble(digit: u8) -> Option<u8>
@@ -89,4 +90,68 @@ pub fn coupled(field: &[u8]) -> Option<Coupled> {
         identity: Identity { bytes },
         facing,
     })
+}
+
+/// A decimal number of at most `most`.
+pub fn number(field: &[u8], most: u32) -> Option<u32> {
+    if field.len() == 0 {
+        return None;
+    }
+    let mut value = 0u32;
+    for b in field {
+        match *b {
+            b'0'..=b'9' => value = value.checked_mul(10)?.checked_add(u32::from(*b - b'0'))?,
+            _ => return None,
+        }
+    }
+    if value > most { None } else { Some(value) }
+}
+
+/// A decimal number of at most 255.
+pub fn small(field: &[u8]) -> Option<u8> {
+    match number(field, 255) {
+        Some(value) => u8::try_from(value).ok(),
+        None => None,
+    }
+}
+
+/// The name inside quotes, its escapes undone: at most sixteen bytes, zero bytes behind them.
+fn unquoted(inside: &[u8]) -> Option<[u8; 16]> {
+    let mut bytes = [0; 16];
+    let mut count = 0usize;
+    let mut escaped = false;
+    for b in inside {
+        if !escaped && *b == b'\\' {
+            escaped = true;
+        } else {
+            if escaped != (*b == b'"' || *b == b'\\') || count >= 16 {
+                return None;
+            }
+            bytes[count] = *b;
+            count += 1;
+            escaped = false;
+        }
+    }
+    if escaped { None } else { Some(bytes) }
+}
+
+/// A quoted name, or x and thirty-two hex digits.
+pub fn name(field: &[u8]) -> Option<Name> {
+    let len = field.len();
+    if len < 2 {
+        return None;
+    }
+    let bytes = if field[0] == b'x' {
+        sixteen(&field[1..])?
+    } else if field[0] == b'"' && field[len - 1] == b'"' {
+        unquoted(&field[1..len - 1])?
+    } else {
+        return None;
+    };
+    Some(Name { bytes })
+}
+
+pub fn identity(field: &[u8]) -> Option<Identity> {
+    let bytes = sixteen(field)?;
+    Some(Identity { bytes })
 }
