@@ -21,11 +21,11 @@ pub four-on : (r : ℕ) (xs : List ℕ) (i : ℕ) → i + 4 ≤ length xs
     → checksum r (drop i xs)
     ≡ checksum (byteStep (byteStep (byteStep (byteStep r (getD xs i 0)) (getD xs (i + 1) 0)) (getD xs (i + 2) 0)) (getD xs (i + 3) 0)) (drop (i + 4) xs)
 four-on r xs i h =
-    let r1 = byteStep r (getD xs i 0) in
-    let r2 = byteStep r1 (getD xs (i + 1) 0) in
-    let r3 = byteStep r2 (getD xs (i + 2) 0) in
-    one-on r xs i (i + 1) (omega arith) (omega arith) ∙ one-on r1 xs (i + 1) (i + 2) (omega arith) (omega arith)
-    ∙ one-on r2 xs (i + 2) (i + 3) (omega arith) (omega arith) ∙ one-on r3 xs (i + 3) (i + 4) (omega arith) (omega arith)
+    let s1 = byteStep r (getD xs i 0) in
+    let s2 = byteStep s1 (getD xs (i + 1) 0) in
+    let s3 = byteStep s2 (getD xs (i + 2) 0) in
+    one-on r xs i (i + 1) (omega arith) (omega arith) ∙ one-on s1 xs (i + 1) (i + 2) (omega arith) (omega arith)
+    ∙ one-on s2 xs (i + 2) (i + 3) (omega arith) (omega arith) ∙ one-on s3 xs (i + 3) (i + 4) (omega arith) (omega arith)
 
 pub none-left : (r : ℕ) (xs : List ℕ) (i : ℕ) → length xs ≤ i → checksum r (drop i xs) ≡ r
 unfolding checksum

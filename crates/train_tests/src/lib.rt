@@ -1,45 +1,6 @@
 // Worked examples of the words, asymmetric on purpose.
-use train::entries::Coupled;
-use train::entries::Vehicle;
-use train::facing::Facing;
-use train::identity::Identity;
-use train::name::Name;
-
-/// The identity whose last byte is `n` and whose other bytes are zero.
-pub fn identity(n: u8) -> Identity {
-    let mut bytes = [0; 16];
-    bytes[15] = n;
-    Identity { bytes }
-}
-
-/// The first sixteen bytes of a text, zero bytes behind it.
-pub fn name(text: &[u8]) -> Name {
-    let mut bytes = [0; 16];
-    for i in 0..16usize {
-        if i < text.len() {
-            bytes[i] = text[i];
-        }
-    }
-    Name { bytes }
-}
-
-pub fn coupled(n: u8, facing: Facing) -> Coupled {
-    Coupled {
-        identity: identity(n),
-        facing,
-    }
-}
-
-pub fn vehicle(text: &[u8], facing: Facing) -> Vehicle {
-    Vehicle {
-        name: name(text),
-        facing,
-    }
-}
-
 #[cfg(test)]
 mod tests {
-    use super::*;
     use std::test::*;
     use train::checks::CoupledFaced;
     use train::checks::CoupledLabelled;
@@ -49,11 +10,16 @@ mod tests {
     use train::checks::facings_known;
     use train::checks::labels_apart;
     use train::checks::names_well_formed;
+    use train::entries::Coupled;
+    use train::entries::Vehicle;
+    use train::facing::Facing;
     use train::facing::FacingDebug;
     use train::facing::FacingPartialEq;
+    use train::identity::Identity;
     use train::identity::IdentityDebug;
     use train::identity::IdentityPartialEq;
     use train::identity::IdentityPartialOrd;
+    use train::name::Name;
     use train::name::NameDebug;
     use train::name::NamePartialEq;
     use train::refusal::Part;
@@ -65,6 +31,38 @@ mod tests {
     use train::turning::CoupledTurn;
     use train::turning::VehicleTurn;
     use train::turning::turn_all;
+
+    /// The identity whose last byte is `n` and whose other bytes are zero.
+    fn identity(n: u8) -> Identity {
+        let mut bytes = [0; 16];
+        bytes[15] = n;
+        Identity { bytes }
+    }
+
+    /// The first sixteen bytes of a text, zero bytes behind it.
+    fn name(text: &[u8]) -> Name {
+        let mut bytes = [0; 16];
+        for i in 0..16usize {
+            if i < text.len() {
+                bytes[i] = text[i];
+            }
+        }
+        Name { bytes }
+    }
+
+    fn coupled(n: u8, facing: Facing) -> Coupled {
+        Coupled {
+            identity: identity(n),
+            facing,
+        }
+    }
+
+    fn vehicle(text: &[u8], facing: Facing) -> Vehicle {
+        Vehicle {
+            name: name(text),
+            facing,
+        }
+    }
 
     const ALL: [Facing; 3] = [Facing::NotKnown, Facing::Direct, Facing::Inverse];
 
