@@ -32,14 +32,14 @@ mod tests {
     use train::turning::VehicleTurn;
     use train::turning::turn_all;
 
-    /// The identity whose last byte is `n` and whose other bytes are zero.
+    // The identity whose last byte is `n` and whose other bytes are zero.
     fn identity(n: u8) -> Identity {
         let mut bytes = [0; 16];
         bytes[15] = n;
         Identity { bytes }
     }
 
-    /// The first sixteen bytes of a text, zero bytes behind it.
+    // The first sixteen bytes of a text, zero bytes behind it.
     fn name(text: &[u8]) -> Name {
         let mut bytes = [0; 16];
         for i in 0..16usize {
