@@ -1,0 +1,6 @@
+pub mod Cars
+pub mod Operation
+pub mod Sections
+pub mod Composing
+pub mod Order
+pub mod Part

@@ -1,0 +1,2 @@
+// The train directory and the operational train directory of a coupled train.
+pub mod cars;
