@@ -4,3 +4,4 @@ pub mod Sections
 pub mod Composing
 pub mod Order
 pub mod Part
+pub mod Written

@@ -1,2 +1,4 @@
 // The train directory and the operational train directory of a coupled train.
 pub mod cars;
+mod checks;
+mod loading;

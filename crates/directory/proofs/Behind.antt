@@ -1,0 +1,62 @@
+-- What is written from the front on, one part behind another.
+use mathlib.Core.Path.{_≡_, refl, sym, _∙_, ap, subst}
+use mathlib.Core.List.{List, [], _∷_, _++_, append-assoc}
+use Prim.Native.Nat.{ℕ, _+_, _-_, _≤_, _<_}
+use native.Mathlib.Omega.{arith}
+use lib.ListN.{length, take, drop, set}
+use borrow.Rule.Slice.PartMut.{putMid}
+use Rattle.std.proofs.shelf.Lists.{take-at, drop-at, drop-drop, drop-more, set-append-right, drop-all, length-drop, length-append, take-rest, take-all, append-nil}
+use Rattle.directory.specs.Written.{Written}
+
+sums : {a b n m : ℕ} → a ≡ n → b ≡ m → a + b ≡ n + m
+sums p q = omega arith
+
+module _ {A : Type 0} where
+  -- after a loan of `out[n..]` to a writer that wrote `b` at its front
+  lent-behind : (a b xs : List A) (n m k : ℕ) → length a ≡ n → length b ≡ m → n ≤ length xs → k ≡ length xs - n
+      → putMid n k (a ++ drop n xs) (b ++ drop m (take k (drop n (a ++ drop n xs)))) ≡ (a ++ b) ++ drop (n + m) xs
+  lent-behind a b xs n m k h l w e =
+      let rest : take k (drop n xs) ≡ drop n xs = take-all k (drop n xs) (omega (arith, length-drop n xs)) in
+      let none : drop k (drop n xs) ≡ [] = drop-all k (drop n xs) (omega (arith, length-drop n xs)) in
+      rw (take-at a (drop n xs) n h, drop-at a (drop n xs) n h, rest, none, drop-drop m n xs, append-nil)
+      (sym (append-assoc a b (drop (n + m) xs)))
+
+  then-lent : (a b xs : List A) {out last : List A} (n m k : ℕ) → out ≡ a ++ drop n xs → length a ≡ n → last ≡ b ++ drop m (take k (drop n out)) → length b ≡ m
+      → n ≤ length xs → k ≡ length xs - n → putMid n k out last ≡ (a ++ b) ++ drop (n + m) xs
+  then-lent a b xs {out} {last} n m k eo ha el hb w ek = let s = lent-behind a b xs n m k ha hb w ek in cc
+
+  -- what is written keeps the length
+  pub same-length : {a xs out : List A} {n : ℕ} → Written a xs n out → length out ≡ length xs
+  same-length {a} {xs} {out} {n} f =
+      let e = ap length (f .wrote) ∙ length-append a (drop n xs) ∙ sums (f .long) (length-drop n xs) in
+      let w = f .fits in
+      e ∙ omega arith
+
+  pub nothing-yet : (xs : List A) → Written [] xs 0 xs
+  nothing-yet xs = record { wrote = refl; long = refl; fits = omega arith }
+
+  -- a loan of `out[n..]` to a writer, behind what has been written
+  pub lend : {a b xs out last : List A} {n m k : ℕ} → Written a xs n out → Written b (take k (drop n out)) m last → k ≡ length out - n
+      → Written (a ++ b) xs (n + m) (putMid n k out last)
+  lend {a} {b} {xs} {out} {last} {n} {m} {k} f g ek =
+      let same = same-length f in
+      let w = f .fits in
+      let rest : take k (drop n out) ≡ drop n out = take-all k (drop n out) (omega (arith, length-drop n out)) in
+      let room = ap length rest ∙ length-drop n out in
+      let fits = g .fits in
+      record {
+        wrote = then-lent a b xs n m k (f .wrote) (f .long) (g .wrote) (g .long) w (omega arith);
+        long = length-append a b ∙ sums (f .long) (g .long);
+        fits = omega (arith, fits, room, same);
+      }
+
+  -- how much room is left
+  pub room-left : {a xs out : List A} {n k : ℕ} → Written a xs n out → k ≡ length out - n → (m : ℕ) → n + m ≤ length xs → m ≤ length (take k (drop n out))
+  room-left {a} {xs} {out} {n} {k} f ek m h =
+      let same = same-length f in
+      let rest : take k (drop n out) ≡ drop n out = take-all k (drop n out) (omega (arith, length-drop n out)) in
+      let room = ap length rest ∙ length-drop n out in
+      omega arith
+
+  pub same-text : {a b xs out : List A} {n : ℕ} → a ≡ b → Written a xs n out → Written b xs n out
+  same-text {a} {b} {xs} {out} {n} e f = subst (λ z. Written z xs n out) e f
