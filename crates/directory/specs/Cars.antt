@@ -43,3 +43,7 @@ stretch m claims e = met turnedCar (e .facing) (cars (e .identity) (claims (e .i
 -- the train order: entry after entry
 abbrev pub train : Meaning → (Identity → Option Claim) → List Coupled → List Car
 train m claims = joined (stretch m claims)
+
+-- what stands for a car past the end of a list
+abbrev pub noCar : Car
+noCar = record { consist = record { bytes = [] }; stance = NotKnown; name = record { bytes = [] }; facing = NotKnown; lead = NotKnown }

@@ -39,6 +39,10 @@ freshName = fresh (by sameBytes (λ c. c .name .bytes))
 abbrev pub consistAt : List Coupled → List Car → ℕ → ℕ
 consistAt es cs p = place (λ e. sameIdentity (getD cs (p - 1) (strange (record { bytes = zeros })) .consist) (e .identity)) 1 es
 
+-- the check that no name stands in two consists; its place is the second's consist
+abbrev pub namesApart : List Coupled → List Car → Check
+namesApart es cs = record { ok = keeps freshName [] cs; reason = SharedName; place = At (consistAt es cs (firstBreach freshName [] cs)) }
+
 -- the claimed vehicle number is one of the consist's
 abbrev pub reaches : Option Claim → ℕ → Bool
 reaches None count = true
@@ -85,11 +89,7 @@ checks f m room =
     must (some (f .formation)) NoFormation
     ∷ each (alone (has m)) ConsistAbsent (f .formation)
     ∷ must (leb (length (train m (f .claims) (f .formation))) 63) TrainLength
-    ∷ record {
-      ok = keeps freshName [] (train m (f .claims) (f .formation));
-      reason = SharedName;
-      place = At (consistAt (f .formation) (train m (f .claims) (f .formation)) (firstBreach freshName [] (train m (f .claims) (f .formation))));
-    }
+    ∷ namesApart (f .formation) (train m (f .claims) (f .formation))
     ∷ must (leb (length (leads (f .claims) (f .formation))) 1) SeveralClaims
     ∷ each (alone (inReach m (f .claims))) ClaimBeyond (f .formation)
     ∷ must (inOrder (f .confirmed) (names (fromHead f m))) ListOrder

@@ -2,3 +2,4 @@
 pub mod cars;
 mod checks;
 mod loading;
+mod orders;

@@ -2,7 +2,7 @@
 use mathlib.Core.Path.{_≡_, refl, sym, ap, _∙_}
 use mathlib.Core.Bool.{Bool, true, false, cond, not, _&&_, _||_}
 use mathlib.Core.List.{List, [], _∷_, _++_}
-use Prim.Native.Nat.{ℕ, _+_, _<_, _≤_}
+use Prim.Native.Nat.{ℕ, _+_, _-_, _<_, _≤_}
 use native.Mathlib.Omega.{arith}
 use lib.ListN.{length, take, drop, getD}
 use Rattle.std.specs.declared.option.Option.{Option}
@@ -14,7 +14,7 @@ use Rattle.train.specs.declared.refusal.Reason.{Reason}
 use Rattle.train.specs.declared.refusal.Refusal.{Refusal}
 use Rattle.std.proofs.shelf.Tests.{and-from}
 use Rattle.train.specs.Names.{every}
-use Rattle.train.specs.Refusals.{Check, Rule, each, eachBehind, breach, orElse, refusal, among}
+use Rattle.train.specs.Refusals.{Check, Rule, each, eachBehind, breach, orElse, refusal, among, fresh}
 
 -- `x` is the entry at i, as the code has it
 module _ {A : Type 0} (rule : Rule A) (reason : Reason) (xs : List A) (i : ℕ) where
@@ -88,3 +88,9 @@ orElse-none (Some x) = refl
 pub last-answers : (part : Part) (cs : List Check) (c : Check) (o : Option Refusal) → None ≡ refusal part cs → o ≡ breach part c → o ≡ refusal part (cs ++ c ∷ [])
 last-answers part cs c o h e =
     e ∙ sym (refusal-joined part cs (c ∷ []) ∙ ap (λ q. orElse q (refusal part (c ∷ []))) (sym h) ∙ orElse-none (breach part c))
+
+-- the entries before the i-th, as the code lends them
+pub fresh-told : {A : Type 0} (alike : A → A → Bool) (xs : List A) (i : ℕ) (x : A) (b : Bool) → b ≡ among alike x (take (i - 0) xs) → fresh alike (take i xs) x ≡ not b
+fresh-told alike xs i x b e =
+    let z : i - 0 ≡ i = omega arith in
+    ap not (sym (e ∙ ap (λ (n : ℕ). among alike x (take n xs)) z))

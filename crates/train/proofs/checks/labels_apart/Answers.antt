@@ -8,14 +8,8 @@ use lib.ListN.{take}
 use Rattle.std.specs.shelf.Text.{sameBytes}
 use Rattle.train.specs.declared.refusal.Reason.the-variants.{Repeated}
 use Rattle.train.specs.Refusals.{breach, fresh, among, by}
-use Rattle.train.proofs.Rules.{each-past, each-here, each-all}
+use Rattle.train.proofs.Rules.{each-past, each-here, each-all, fresh-told}
 use Rattle.train.proofs.checks.labels_apart.Needs as need
-
--- the entries before the i-th, as the code lends them
-told : {A : Type 0} (alike : A → A → Bool) (xs : List A) (i : ℕ) (x : A) (b : Bool) → b ≡ among alike x (take (i - 0) xs) → fresh alike (take i xs) x ≡ not b
-told alike xs i x b e =
-    let z : i - 0 ≡ i = omega arith in
-    ap not (sym (e ∙ ap (λ (n : ℕ). among alike x (take n xs)) z))
 
 pub returns-then-stands-among : need.returns-then-stands-among
 returns-then-stands-among g c =
@@ -23,14 +17,14 @@ returns-then-stands-among g c =
     ap Some (c .at .ensures)
     ∙ sym (ap (breach (c .args .part)) (c .loop-i .inv)
     ∙ each-here (fresh alike) Repeated (c .args .entries .now) (c .loop-i .i) (c .args .part) (c .index-entries-i .result) _ (c .index-entries-i .is) (c .loop-i-test .taken)
-    (told alike (c .args .entries .now) (c .loop-i .i) (c .index-entries-i .result) true (c .if-stands-among .ensures tt)))
+    (fresh-told alike (c .args .entries .now) (c .loop-i .i) (c .index-entries-i .result) true (c .if-stands-among .ensures tt)))
 
 pub loop-i-again : need.loop-i-again
 loop-i-again g c =
     let alike = by sameBytes (g .T·Labelled .labels) in
     c .loop-i .inv
     ∙ each-past (fresh alike) Repeated (c .args .entries .now) (c .loop-i .i) (c .index-entries-i .result) _ (c .index-entries-i .is) (c .loop-i-test .taken)
-    (told alike (c .args .entries .now) (c .loop-i .i) (c .index-entries-i .result) false (c .if-stands-among .ensures tt))
+    (fresh-told alike (c .args .entries .now) (c .loop-i .i) (c .index-entries-i .result) false (c .if-stands-among .ensures tt))
 
 pub returns : need.returns
 returns g c =
