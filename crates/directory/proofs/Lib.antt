@@ -1,3 +1,5 @@
 pub mod Behind
+pub mod Fills
+pub mod InOrder
 pub mod Loads
 pub mod Walks

@@ -4,4 +4,5 @@ pub mod Sections
 pub mod Composing
 pub mod Order
 pub mod Part
+pub mod Steps
 pub mod Written

@@ -14,6 +14,8 @@ ghost use Rattle.directory.specs.Cars.{noCar};
 ghost use Rattle.directory.specs.Composing.{inOrder, freshName, consistAt, namesApart};
 ghost use Rattle.directory.specs.Operation.{names as namesOf, pick as pickOf, ordered, strange};
 ghost use Rattle.directory.specs.Sections.{place};
+ghost use Rattle.directory.specs.Steps.{nextPlace};
+ghost use Rattle.std.specs.Options.{Cases as BySome};
 ghost use Rattle.directory.specs.Written.{Written};
 use crate::cars::Car;
 use train::checks::Labelled;
@@ -94,6 +96,40 @@ fn is_name_at(name: &Name, train: &[Car], at: usize) -> bool
     at < train.len() && *name == train[at].name
 }
 
+/// The place behind this name, where the train's names have been met up to `at`; nothing where the
+/// name is the train's and not the next.
+fn next_place(name: &Name, train: &[Car], at: usize) -> Option<usize>
+    requires { ⌜ at ≤ length (now train) ⌝ }
+    ensures value { λ r. ⌜ r ≡ nextPlace (now (name .entry)) (namesOf (now (train .entry))) at ⌝ }
+    ensures within { λ r. ⌜ BySome r (Unit {0}) (λ k. k ≤ length (now (train .entry))) ⌝ }
+{
+    if !has_name(name, train) {
+        return Some(at);
+    }
+    if is_name_at(name, train, at) {
+        Some(at + 1)
+    } else {
+        None
+    }
+}
+
+/// Whether a confirmed list, if there is one, has the train's names in order.
+pub(crate) fn in_order(confirmed: &[Name], head: &[Car]) -> bool
+    ensures { λ r. ⌜ r ≡ inOrder (now (confirmed .entry)) (namesOf (now (head .entry))) ⌝ }
+{
+    if confirmed.len() == 0 {
+        return true;
+    }
+    let mut at = 0;
+    for name in confirmed {
+        match next_place(name, head, at) {
+            Some(next) => at = next,
+            None => return false,
+        }
+    }
+    at == head.len()
+}
+
 /// The vehicle of this name or, if none has it, an inserted one.
 pub(crate) fn pick(train: &[Car], name: &Name) -> Car
     ensures { λ r. ⌜ r ≡ pickOf (now (train .entry)) (now (name .entry)) ⌝ }
@@ -110,4 +146,21 @@ pub(crate) fn pick(train: &[Car], name: &Name) -> Car
         facing: Facing::NotKnown,
         lead: Facing::NotKnown,
     }
+}
+
+/// Lays out the operational order: the confirmed list's, if there is one.
+pub(crate) fn order_by(confirmed: &[Name], head: &[Car], cars: &mut [Car]) -> usize
+    requires listed { ⌜ length (now confirmed) ≤ length (now cars) ⌝ }
+    requires headed { ⌜ length (now head) ≤ length (now cars) ⌝ }
+    ensures { λ r. ⌜ Written (ordered (now (confirmed .entry)) (now (head .entry))) (now (cars .entry)) r (now (cars .exit)) ⌝ }
+{
+    if confirmed.len() == 0 {
+        let count = head.len();
+        cars[0..count].copy_from_slice(head);
+        return count;
+    }
+    for (i, name) in confirmed.iter().enumerate() {
+        cars[i] = pick(head, name);
+    }
+    confirmed.len()
 }
