@@ -60,3 +60,25 @@ module _ {A : Type 0} where
 
   pub same-text : {a b xs out : List A} {n : ℕ} → a ≡ b → Written a xs n out → Written b xs n out
   same-text {a} {b} {xs} {out} {n} e f = subst (λ z. Written z xs n out) e f
+
+  -- after a copy into `out[n..n + m]`, behind one into `out[0..n]`
+  pub two : {a′ b′ a b : List A} (xs : List A) (n m : ℕ) → a′ ≡ a → b′ ≡ b → length a ≡ n → putMid n m (a′ ++ drop n xs) b′ ≡ (a ++ b) ++ drop (n + m) xs
+  two {a′} {b′} {a} {b} xs n m ea eb h =
+      let put : putMid n m (a ++ drop n xs) b ≡ (a ++ b) ++ drop (n + m) xs =
+      rw (take-at a (drop n xs) n h, drop-at a (drop n xs) n h, drop-drop m n xs) (sym (append-assoc a b (drop (n + m) xs))) in
+      cc
+
+  -- and a third
+  pub three : {a′ b′ t′ a b t : List A} (xs : List A) (n m k : ℕ) → a′ ≡ a → b′ ≡ b → t′ ≡ t → length a ≡ n → length b ≡ m
+      → putMid (n + m) k (putMid n m (a′ ++ drop n xs) b′) t′ ≡ (a ++ (b ++ t)) ++ drop (n + m + k) xs
+  three {a′} {b′} {t′} {a} {b} {t} xs n m k ea eb et ha hb =
+      let h : length (a ++ b) ≡ n + m = length-append a b ∙ sums ha hb in
+      let one = two xs n m ea eb ha in
+      let next = two {a′ = a ++ b} {b′ = t′} {a = a ++ b} {b = t} xs (n + m) k refl et h in
+      let flat = append-assoc a b t in
+      cc
+
+  -- one element at the front
+  pub first-set : (xs : List A) (v : A) → 0 < length xs → Written (v ∷ []) xs 1 (set xs 0 v)
+  first-set [] v h = absurd (omega arith)
+  first-set (x ∷ xs) v h = record { wrote = refl; long = refl; fits = omega arith }

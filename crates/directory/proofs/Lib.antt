@@ -2,4 +2,5 @@ pub mod Behind
 pub mod Fills
 pub mod InOrder
 pub mod Loads
+pub mod Sections
 pub mod Walks

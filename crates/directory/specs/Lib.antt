@@ -1,6 +1,7 @@
 pub mod Cars
 pub mod Operation
 pub mod Sections
+pub mod Rows
 pub mod Composing
 pub mod Order
 pub mod Part

@@ -3,3 +3,4 @@ pub mod cars;
 mod checks;
 mod loading;
 mod orders;
+mod rows;
