@@ -6,6 +6,11 @@ use native.Mathlib.Omega.{arith}
 use lib.ListN.{length, take, drop, getD, set}
 use borrow.Rule.Slice.PartMut.{postOf}
 use Rattle.std.proofs.shelf.Lists.{take-all, drop-more, map-more, length-map, length-take-le, set-append-right}
+use Rattle.train.specs.declared.entries.Coupled.{Coupled}
+use Rattle.fleet.specs.Fleets.{Meaning}
+use Rattle.directory.specs.declared.rows.TrainRow.{TrainRow}
+use Rattle.directory.specs.Rows.{trainRowOf}
+use Rattle.directory.specs.Sections.{counterOf}
 use Rattle.directory.specs.Written.{Written}
 
 module _ {A B : Type 0} (f : A → B) (xs : List A) (before : List B) where
@@ -36,3 +41,7 @@ pub copied : {A : Type 0} (xs before copy : List A) → copy ≡ xs → length x
 copied xs before copy e h =
     let z : length xs - 0 ≡ length xs = omega arith in
     record { wrote = ap₂ (λ a b. a ++ b) e (ap (λ k. drop k before) z); long = refl; fits = h }
+
+-- the row of an entry, with the counter that was asked for
+pub entry-row : (m : Meaning) (e : Coupled) (n : ℕ) → n ≡ counterOf (m (e .identity)) → _≡_ {A = TrainRow} (record { identity = e .identity; counter = n; facing = e .facing }) (trainRowOf m e)
+entry-row m e n q = ap (λ k. record { identity = e .identity; counter = k; facing = e .facing }) q

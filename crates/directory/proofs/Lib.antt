@@ -2,5 +2,6 @@ pub mod Behind
 pub mod Fills
 pub mod InOrder
 pub mod Loads
+pub mod Runs
 pub mod Sections
 pub mod Walks

@@ -4,3 +4,4 @@ mod checks;
 mod loading;
 mod orders;
 mod rows;
+mod tables;
