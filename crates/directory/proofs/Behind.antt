@@ -82,3 +82,9 @@ module _ {A : Type 0} where
   pub first-set : (xs : List A) (v : A) → 0 < length xs → Written (v ∷ []) xs 1 (set xs 0 v)
   first-set [] v h = absurd (omega arith)
   first-set (x ∷ xs) v h = record { wrote = refl; long = refl; fits = omega arith }
+
+  -- what was written, as the code lends it
+  pub front : {a xs out : List A} {n : ℕ} → Written a xs n out → take (n - 0) out ≡ a
+  front {a} {xs} {out} {n} w =
+      let z : n - 0 ≡ n = omega arith in
+      ap (λ k. take k out) z ∙ ap (take n) (w .wrote) ∙ take-at a (drop n xs) n (w .long)

@@ -24,7 +24,7 @@ use Rattle.bench.specs.declared.claims.Claim.{Claim}
 use Rattle.bench.specs.Facts.{Facts, some}
 use Rattle.directory.specs.declared.cars.Car.{Car}
 use Rattle.directory.specs.Cars.{train}
-use Rattle.directory.specs.Operation.{leads, fromHead, names, operational, strange}
+use Rattle.directory.specs.Operation.{leads, fromHead, names, ordered, strange}
 use Rattle.directory.specs.Sections.{composition, size, place}
 
 -- the fleet has the entry's consist
@@ -84,18 +84,32 @@ abbrev pub parted : List Car → Bool
 parted [] = false
 parted (c ∷ cs) = (not (inserted c) && split (c .consist) cs) || parted cs
 
-abbrev pub checks : Facts → Meaning → ℕ → List Check
-checks f m room =
+-- the checks that look at the formation and the fleet alone
+abbrev pub formationChecks : Facts → Meaning → List Check
+formationChecks f m =
     must (some (f .formation)) NoFormation
     ∷ each (alone (has m)) ConsistAbsent (f .formation)
     ∷ must (leb (length (train m (f .claims) (f .formation))) 63) TrainLength
-    ∷ namesApart (f .formation) (train m (f .claims) (f .formation))
+    ∷ []
+
+-- the checks of the train's names and the claims
+abbrev pub trainChecks : Facts → Meaning → List Check
+trainChecks f m =
+    namesApart (f .formation) (train m (f .claims) (f .formation))
     ∷ must (leb (length (leads (f .claims) (f .formation))) 1) SeveralClaims
     ∷ each (alone (inReach m (f .claims))) ClaimBeyond (f .formation)
-    ∷ must (inOrder (f .confirmed) (names (fromHead f m))) ListOrder
-    ∷ must (not (parted (operational f m))) InsertedInside
-    ∷ record { ok = leb (size f m) room; reason = BufferShort; place = At (size f m) }
     ∷ []
+
+-- the checks of the confirmed list, over the train from its head
+abbrev pub orderChecks : List Name → List Car → List Check
+orderChecks confirmed head = must (inOrder confirmed (names head)) ListOrder ∷ must (not (parted (ordered confirmed head))) InsertedInside ∷ []
+
+abbrev pub roomCheck : Facts → Meaning → ℕ → Check
+roomCheck f m room = record { ok = leb (size f m) room; reason = BufferShort; place = At (size f m) }
+
+-- all of them, in order
+abbrev pub checks : Facts → Meaning → ℕ → List Check
+checks f m room = formationChecks f m ++ (trainChecks f m ++ (orderChecks (f .confirmed) (fromHead f m) ++ roomCheck f m room ∷ []))
 
 -- a composition is written, or refused
 pub data Outcome : Type 0 where

@@ -1,6 +1,7 @@
 // The train directory and the operational train directory of a coupled train.
 pub mod cars;
 mod checks;
+mod composing;
 mod loading;
 mod orders;
 mod rows;
