@@ -88,3 +88,6 @@ module _ {A : Type 0} where
   front {a} {xs} {out} {n} w =
       let z : n - 0 ≡ n = omega arith in
       ap (λ k. take k out) z ∙ ap (take n) (w .wrote) ∙ take-at a (drop n xs) n (w .long)
+
+  pub same-count : {a xs out : List A} {n m : ℕ} → n ≡ m → Written a xs n out → Written a xs m out
+  same-count {a} {xs} {out} {n} {m} e f = subst (λ k. Written a xs k out) e f

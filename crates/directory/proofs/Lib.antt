@@ -5,3 +5,4 @@ pub mod Loads
 pub mod Runs
 pub mod Sections
 pub mod Walks
+pub mod Whole

@@ -6,4 +6,5 @@ pub mod Composing
 pub mod Order
 pub mod Part
 pub mod Steps
+pub mod Whole
 pub mod Written

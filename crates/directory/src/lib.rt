@@ -6,3 +6,4 @@ mod loading;
 mod orders;
 mod rows;
 mod tables;
+mod writing;

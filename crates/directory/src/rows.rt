@@ -30,7 +30,7 @@ pub(crate) struct TrainRow {
     pub facing: Facing,
 }
 
-impl Row for TrainRow as TrainRowRow {
+pub(crate) impl Row for TrainRow as TrainRowRow {
     ghost row = { trainRow };
 
     ghost size = { 24 };
@@ -53,7 +53,7 @@ pub(crate) struct ConsistRow {
     pub number: u8,
 }
 
-impl Row for ConsistRow as ConsistRowRow {
+pub(crate) impl Row for ConsistRow as ConsistRowRow {
     ghost row = { consistRow };
 
     ghost size = { 20 };
@@ -87,7 +87,7 @@ fn lead_byte(lead: Facing) -> u8
     }
 }
 
-impl Row for VehicleRow as VehicleRowRow {
+pub(crate) impl Row for VehicleRow as VehicleRowRow {
     ghost row = { vehicleRow };
 
     ghost size = { 24 };
