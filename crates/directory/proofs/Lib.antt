@@ -1,4 +1,5 @@
 pub mod Behind
+pub mod Composed
 pub mod Fills
 pub mod InOrder
 pub mod Loads

@@ -94,3 +94,6 @@ pub fresh-told : {A : Type 0} (alike : A → A → Bool) (xs : List A) (i : ℕ)
 fresh-told alike xs i x b e =
     let z : i - 0 ≡ i = omega arith in
     ap not (sym (e ∙ ap (λ (n : ℕ). among alike x (take n xs)) z))
+
+pub then-answers : (part : Part) (cs ds : List Check) (o : Option Refusal) → None ≡ refusal part cs → o ≡ refusal part ds → o ≡ refusal part (cs ++ ds)
+then-answers part cs ds o h e = e ∙ sym (refusal-joined part cs ds ∙ ap (λ q. orElse q (refusal part ds)) (sym h))
