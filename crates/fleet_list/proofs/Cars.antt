@@ -128,3 +128,15 @@ going-done t from list n at g l e =
 pub wrong-next : (m n : ℕ) (t : List ℕ) (at : ℕ) → n + m ≡ 31 → at < length t → (lib.ListN.getD t at 0 ≡ 10 → ⊥) → (n < 31 → lib.ListN.getD t at 0 ≡ 32 → ⊥) → Breaks (Few m) others (drop at t) 0
 wrong-next zero n t at e l a b = wrong-there (Few 0) others (λ b. b ≡ 10) t at [] (omega arith, tt) first-last l a
 wrong-next (suc m) n t at e l a b = wrong-there (Few (suc m)) others Next t at [] (omega arith, tt) (first-other (suc m)) l (⊎-elim a (b (omega arith)))
+
+pub front-others : (m : ℕ) → Front (Few m) others
+front-others m [] [] w w′ g g′ e = (refl, cc)
+front-others m [] (v ∷ vs) w w′ g g′ e = let z : _≡_ {A = ℕ} 10 32 = cc in absurd (omega arith)
+front-others m (v ∷ vs) [] w w′ g g′ e = let z : _≡_ {A = ℕ} 10 32 = cc in absurd (omega arith)
+front-others m (v ∷ vs) (x ∷ xs) w w′ g g′ e =
+    let e1 : 32 ∷ (car v ++ (others vs ++ w)) ≡ 32 ∷ (car x ++ (others xs ++ w′)) =
+    ap (λ z. 32 ∷ z) (sym (append-assoc (car v) (others vs) w)) ∙ ap (λ z. z ++ w) (sym (others-more v vs)) ∙ e ∙ ap (λ z. z ++ w′) (others-more x xs)
+    ∙ ap (λ z. 32 ∷ z) (append-assoc (car x) (others xs) w′) in
+    let p = front-car v x (others vs ++ w) (others xs ++ w′) (g .1 .0) (g′ .1 .0) (cc e1) in
+    let q = front-others m vs xs w w′ (omega (arith, g .0), g .1 .1) (omega (arith, g′ .0), g′ .1 .1) (p .1) in
+    (ap (λ z. z ∷ vs) (p .0) ∙ ap (λ z. x ∷ z) (q .0), q .1)

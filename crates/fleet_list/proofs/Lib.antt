@@ -6,3 +6,7 @@ mod Link
 mod Pads
 mod Hex
 mod Cars
+mod Four
+mod Lent
+mod Gathers
+mod Rows

@@ -2,5 +2,8 @@
 mod counter_reader;
 mod faults;
 mod identity_reader;
+mod line_reader;
+mod list_reader;
 mod name_reader;
+mod tables;
 mod vehicle_reader;
