@@ -10,8 +10,8 @@ use Rattle.std.specs.shelf.Lists.{All}
 use Rattle.train.specs.declared.entries.Vehicle.{Vehicle}
 use Rattle.train.specs.declared.facing.Facing.the-variants.{Direct}
 use Rattle.train.specs.declared.refusal.Refusal.{Refusal}
-use Rattle.fleet_list.specs.Fleets.{IsVehicle}
-use Rattle.fleet_list.specs.Books.{Item}
+use Rattle.fleet.specs.Fleets.{IsVehicle}
+use Rattle.fleet.specs.Books.{Item}
 use Rattle.fleet_list.specs.Forms.{Front, Both, joint, Breaks, Reads, Refused}
 use Rattle.fleet_list.specs.Parts.{GoodCar, car, carOf, cars, spaced, Car, Few, others, Bytes, bytesText}
 use Rattle.fleet_list.specs.Texts.{byteText, vehicleText}
@@ -78,7 +78,7 @@ vehicles-text : (vs : List Vehicle) → joined spaced (cars vs) ≡ joined vehic
 vehicles-text [] = refl
 vehicles-text (v ∷ vs) = ap (λ z. vehicleText v ++ z) (vehicles-text vs)
 
-length-map : {A B : Type 0} (f : A → B) (xs : List A) → length (map f xs) ≡ length xs
+pub length-map : {A B : Type 0} (f : A → B) (xs : List A) → length (map f xs) ≡ length xs
 length-map f [] = refl
 length-map f (x ∷ xs) = ap suc (length-map f xs)
 

@@ -9,8 +9,12 @@ use lib.Seq.{length-take-le, take-take, drop-drop}
 use Rattle.std.proofs.shelf.Lists.{drop-take, drop-more, drop-all, take-all}
 use Rattle.train.specs.declared.entries.Vehicle.{Vehicle}
 use Rattle.fleet_list.specs.declared.tables.Head.{Head}
-use Rattle.fleet_list.specs.Books.{Item, vehiclesIn}
+use Rattle.fleet.specs.Books.{Item, vehiclesIn}
 use Rattle.fleet_list.specs.Tables.{itemOf, gathered, counts}
+
+-- what stands past the end of a table
+abbrev pub noHead : Head
+noHead = record { identity = record { bytes = [] }; counter = 0; count = 0 }
 
 pub counts-push : (hs : List Head) (h : Head) → counts (hs ++ h ∷ []) ≡ counts hs + h .count
 counts-push [] h = omega arith

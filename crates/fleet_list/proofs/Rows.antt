@@ -13,7 +13,7 @@ use Rattle.std.proofs.shelf.Lists.{take-more-set, joined-more, drop-all, take-a
 use Rattle.train.specs.declared.entries.Vehicle.{Vehicle}
 use Rattle.train.specs.declared.refusal.Refusal.{Refusal}
 use Rattle.fleet_list.specs.declared.tables.Head.{Head}
-use Rattle.fleet_list.specs.Books.{Item, vehiclesIn}
+use Rattle.fleet.specs.Books.{Item, vehiclesIn}
 use Rattle.fleet_list.specs.Forms.{Reads, Refused}
 use Rattle.fleet_list.specs.Texts.{byteText, vehicleText, quoted, sign}
 use Rattle.fleet_list.specs.Lists.{IsLine, lineText, listText}

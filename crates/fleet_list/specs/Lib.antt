@@ -5,9 +5,9 @@ pub mod Steps
 pub mod Counters
 pub mod Parts
 pub mod Rooms
-pub mod Fleets
-pub mod Rows
-pub mod Books
 pub mod Lists
 pub mod Tables
 pub mod Readings
+pub mod Writes
+pub mod Imports
+pub mod Entries

@@ -6,8 +6,8 @@ use lib.ListN.{length}
 use Rattle.std.specs.Joined.{joined}
 use Rattle.std.specs.Written.{decimal}
 use Rattle.std.specs.shelf.Lists.{All}
-use Rattle.fleet_list.specs.Fleets.{IsVehicle}
-use Rattle.fleet_list.specs.Books.{Item}
+use Rattle.fleet.specs.Fleets.{IsVehicle}
+use Rattle.fleet.specs.Books.{Item}
 use Rattle.fleet_list.specs.Texts.{byteText, vehicleText}
 
 -- the identity in hex, a space, the counter, the vehicles, the end of the line

@@ -9,7 +9,7 @@ use Rattle.std.specs.shelf.Lists.{All}
 use Rattle.train.specs.declared.entries.Vehicle.{Vehicle}
 use Rattle.train.specs.declared.refusal.Refusal.{Refusal}
 use Rattle.fleet_list.specs.declared.tables.Head.{Head}
-use Rattle.fleet_list.specs.Books.{Item, vehiclesIn}
+use Rattle.fleet.specs.Books.{Item, vehiclesIn}
 use Rattle.fleet_list.specs.Forms.{Breaks, fault}
 use Rattle.fleet_list.specs.Lists.{IsLine, lineText, listText}
 use Rattle.fleet_list.specs.Tables.{gathered, counts}

@@ -7,7 +7,7 @@ use Rattle.std.specs.declared.result.Result.the-variants.{Ok, Err}
 use Rattle.train.specs.declared.entries.Vehicle.{Vehicle}
 use Rattle.train.specs.declared.refusal.Refusal.{Refusal}
 use Rattle.fleet_list.specs.declared.tables.Head.{Head}
-use Rattle.fleet_list.specs.Books.{Item}
+use Rattle.fleet.specs.Books.{Item}
 use Rattle.fleet_list.specs.Forms.{Reads, Refused}
 use Rattle.fleet_list.specs.Lists.{IsLine, lineText}
 

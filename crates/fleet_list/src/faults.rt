@@ -1,6 +1,7 @@
-// The refusal of a line that breaks the form.
+// The refusals of import.
 ghost use mathlib.Core.Path.{_≡_};
 ghost use Prim.Native.Nat.{_+_, _^_, _<_};
+ghost use Rattle.train.specs.declared.refusal.Part.the-variants.{Text};
 ghost use Rattle.fleet_list.specs.Forms.{fault};
 use train::refusal::Part;
 use train::refusal::Place;
@@ -16,5 +17,15 @@ pub fn broken(line: usize, at: usize) -> Refusal
         part: Part::Text,
         reason: Reason::LineForm,
         place: Place::InLine { line, byte: at + 1 },
+    }
+}
+
+pub fn refuse(reason: Reason, place: usize) -> Refusal
+    ensures { λ r. ⌜ r ≡ record { part = Text; reason = reason; place = Place.At place } ⌝ }
+{
+    Refusal {
+        part: Part::Text,
+        reason,
+        place: Place::At(place),
     }
 }

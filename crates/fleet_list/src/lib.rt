@@ -1,4 +1,6 @@
 // Fleet lists: a fleet as text, a line for each consist.
+mod book_writer;
+mod checks;
 mod counter_reader;
 mod faults;
 mod identity_reader;

@@ -25,7 +25,7 @@ pub fn read_line(text: &[u8], line: usize, room: &mut [Vehicle]) -> Result<(Head
         Head {
             identity: Identity { bytes },
             counter,
-            count: 1 + others,
+            count: (1 + others) as u8,
         },
         end,
     ))

@@ -41,7 +41,7 @@ pub fn read_list(
         let (head, len) = read_line(&text[at..], lines + 1, &mut vehicles[from..from + LONGEST])?;
         heads[at_most(lines, LINES)] = head;
         lines += 1;
-        total += head.count;
+        total += head.count as usize;
         at += len;
     }
     Ok((lines, total))

@@ -6,5 +6,5 @@ use train::identity::Identity;
 pub struct Head {
     pub identity: Identity,
     pub counter: u32,
-    pub count: usize,
+    pub count: u8,
 }

@@ -2,11 +2,12 @@ use mathlib.Core.Path.{_≡_, sym, ap, subst}
 use Prim.Native.Nat.{_+_}
 use native.Mathlib.Omega.{arith}
 use lib.ListN.{take}
+use lib.Seq.{length-take-le}
 use Rattle.std.proofs.shelf.Results.{err-from-errBy}
 use Rattle.fleet_list.specs.Forms.{Reads}
 use Rattle.fleet_list.specs.Lists.{IsLine, lineText}
 use Rattle.fleet_list.specs.Parts.{carOf}
-use Rattle.fleet_list.proofs.Four.{in-identity, in-counter, in-first-car, in-others, whole}
+use Rattle.fleet_list.proofs.Four.{in-identity, in-counter, in-first-car, in-others, whole, length-map}
 use Rattle.fleet_list.proofs.Lent.{front-lent, long-lent}
 use Rattle.fleet_list.proofs.line_reader.read_line.Needs as need
 
@@ -48,3 +49,8 @@ returns c =
           (sym (front-lent (c .args .room .now) (c .read-others .last .room) (c .in-Continue-first .first) _ (c .in-Continue-others .others) (omega (arith, c .pre)) (o .1))) r,
       long-lent (c .args .room .now) (c .read-others .last .room) (c .in-Continue-first .first) _ (c .in-Continue-others .others) (omega (arith, c .pre)) (o .1),
     )
+
+pub cast-result : need.cast-result
+cast-result c =
+    let o = c .in-Continue-others .ensures tt in
+    omega (arith, o .0 .good .0, length-map carOf (take (c .in-Continue-others .others) (c .read-others .last .room)), length-take-le (c .in-Continue-others .others) (c .read-others .last .room) (o .1))

@@ -12,6 +12,7 @@ use Rattle.train.specs.declared.entries.Vehicle.{Vehicle}
 use Rattle.train.specs.declared.identity.Identity.{Identity}
 use Rattle.train.specs.Facings.{known}
 use Rattle.train.specs.Names.{IsName}
+use Rattle.fleet.specs.declared.questions.Found.{Found}
 
 pub record Consist : Type 0 where
   pub counter : ℕ
@@ -45,6 +46,11 @@ pub record IsConsist (c : Consist) : Type 0 where
 abbrev pub Lawful : Option Consist → Type 0
 Lawful None = Unit {0}
 Lawful (Some c) = IsConsist c
+
+-- what a look-up answers
+abbrev pub foundIn : Option Consist → Option Found
+foundIn None = None
+foundIn (Some c) = Some (record { counter = c .counter; count = length (c .vehicles) })
 
 abbrev pub vehiclesOf : Option Consist → List Vehicle
 vehiclesOf None = []

@@ -18,8 +18,8 @@ use Rattle.train.specs.declared.refusal.Reason.the-variants.{BookHead, ConsistC
 use Rattle.train.specs.Facings.{code}
 use Rattle.train.specs.Octets.{below, zeros}
 use Rattle.train.specs.Refusals.{Check, must}
-use Rattle.fleet_list.specs.Fleets.{Consist, Meaning, Pairs, IsConsist}
-use Rattle.fleet_list.specs.Rows.{rows, identityOf, counterOf, sizeOf, nameOf, facingByte, entryChecks}
+use Rattle.fleet.specs.Fleets.{Consist, Meaning, Pairs, IsConsist}
+use Rattle.fleet.specs.Rows.{rows, identityOf, counterOf, sizeOf, nameOf, facingByte, entryChecks}
 
 -- the parts of the bytes: version, release, consist count, consist entries, vehicle count, vehicle entries
 abbrev pub countOf : List ℕ → ℕ

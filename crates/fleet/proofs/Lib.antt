@@ -1,0 +1,11 @@
+pub mod Heads
+pub mod Entries
+pub mod Found
+pub mod Halves
+pub mod Numbers
+pub mod Flats
+pub mod Kept
+pub mod Readings
+pub mod Writings
+pub mod Means
+pub mod Whole
