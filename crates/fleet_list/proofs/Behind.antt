@@ -68,10 +68,10 @@ lend {a} {b} {xs} {out} {last} {n} {m} {k} f g ek =
 -- a store at `out[n]`, behind what is written
 pub then-byte : {a xs out : List ℕ} {n : ℕ} → Written a xs n out → (v : ℕ) → n < length xs → Written (a ++ v ∷ []) xs (n + 1) (set out n v)
 then-byte {a} {xs} {out} {n} f v l = record {
-      wrote = ap (λ z. set z n v) (f .wrote) ∙ one-behind a xs n v (f .long) l;
-      long = length-append a (v ∷ []) ∙ sums (f .long) refl;
-      fits = omega arith;
-    }
+  wrote = ap (λ z. set z n v) (f .wrote) ∙ one-behind a xs n v (f .long) l;
+  long = length-append a (v ∷ []) ∙ sums (f .long) refl;
+  fits = omega arith;
+}
 
 -- nothing is written
 pub written-none : (xs : List ℕ) → Written [] xs 0 xs

@@ -29,7 +29,7 @@ module _ {A B : Type 0} (rule : Rule A) (reason : Reason) (f : B → A) (ys : Li
   pub part-all : (part : Part) → length ys ≤ i → breach part (eachBehind rule reason (take i (map f ys)) (drop i (map f ys))) ≡ None
   part-all part l = each-all rule reason (map f ys) i part (omega (arith, length-map f ys))
 
-last-push : (xs : List (List ℕ)) (x : List ℕ) → lastOf (xs ++ x ∷ []) ≡ x
+pub last-push : (xs : List (List ℕ)) (x : List ℕ) → lastOf (xs ++ x ∷ []) ≡ x
 last-push [] x = refl
 last-push (y ∷ []) x = refl
 last-push (y ∷ z ∷ ys) x = last-push (z ∷ ys) x

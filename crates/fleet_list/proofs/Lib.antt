@@ -14,3 +14,8 @@ mod Behind
 mod Loops
 mod Checked
 mod BookRows
+mod Back
+mod Lawful
+mod Decides
+mod Stores
+mod Ready

@@ -20,9 +20,9 @@ next-fits f es i d l = at-drop-more (λ z. length (joined f z)) es i d l ∙ len
 
 pub writing-more : {V : Type 0} (p : List ℕ) (f : V → List ℕ) (es : List V) (s i at : ℕ) (before out last : List ℕ) (d : V) (m k : ℕ) → Writing p f es s i at before out → i < length es → Written (f (getD es i d)) (take k (drop at out)) m last → k ≡ length out - at → Writing p f es s (i + 1) (at + m) before (putMid at k out last)
 writing-more p f es s i at before out last d m k w l g e = record {
-      wrote = same-text (joined-more f p (take i es) (getD es i d) ∙ ap (λ z. p ++ joined f z) (sym (take-more es i d l))) (lend (w .wrote) g e);
-      fits = omega (arith, w .fits, next-fits f es i d l, g .long);
-    }
+  wrote = same-text (joined-more f p (take i es) (getD es i d) ∙ ap (λ z. p ++ joined f z) (sym (take-more es i d l))) (lend (w .wrote) g e);
+  fits = omega (arith, w .fits, next-fits f es i d l, g .long);
+}
 
 -- the next element fits into what is left
 pub writing-room : {V : Type 0} (p : List ℕ) (f : V → List ℕ) (es : List V) (s i at : ℕ) (before out : List ℕ) (d : V) → Writing p f es s i at before out → i < length es → at + length (f (getD es i d)) ≤ length out
@@ -42,4 +42,3 @@ start-byte (x ∷ xs) v l = record { wrote = refl; long = refl; fits = omega ari
 
 pub unset : {a out : List ℕ} (xs : List ℕ) {n : ℕ} (v : ℕ) → 0 < n → Written a (set xs 0 v) n out → Written a xs n out
 unset {a} {out} xs {n} v l w = record { wrote = w .wrote ∙ ap (λ z. a ++ z) (drop-set-lt n xs 0 v l); long = w .long; fits = omega (arith, w .fits, length-set xs 0 v) }
-

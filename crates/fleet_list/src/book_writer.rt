@@ -12,6 +12,7 @@ use crate::tables::Head;
 use train::entries::Vehicle;
 
 const VERSION: u8 = 1;
+
 const RELEASE: u8 = 0;
 
 fn put_version(out: &mut [u8]) -> usize

@@ -4,6 +4,7 @@ mod checks;
 mod counter_reader;
 mod faults;
 mod identity_reader;
+pub mod import;
 mod line_reader;
 mod list_reader;
 mod name_reader;

@@ -5,15 +5,9 @@ ghost use mathlib.Core.Path.{_≡_};
 ghost use Prim.Native.Nat.{min};
 ghost use Rattle.fleet_list.specs.Readings.{ListAnswer};
 use crate::line_reader::read_line;
-use crate::tables::Head;
+use crate::tables::*;
 use train::entries::Vehicle;
 use train::refusal::Refusal;
-
-pub const LINES: usize = 200;
-
-pub const VEHICLES: usize = 2000;
-
-pub const LONGEST: usize = 32;
 
 // The lesser of the two.
 fn at_most(n: usize, limit: usize) -> usize

@@ -39,7 +39,7 @@ put-count-at-requires-2 c κs =
     let a = lend (lend (c .put-version-at .ensures) (c .put-count-at .ensures) refl) (c .put-heads-at .ensures) refl in
     record {
       room = tail-room _ (c .put-version-at .result + c .put-count-at .result + c .put-heads-at .result) _
-        (omega (arith, c .put-version-at .ensures .long, c .put-count-at .ensures .long, c .put-heads-at .ensures .long, same-length a));
+          (omega (arith, c .put-version-at .ensures .long, c .put-count-at .ensures .long, c .put-heads-at .ensures .long, same-length a));
       small = c .pre .small .1;
     }
 

@@ -20,11 +20,12 @@ returns-then-not-is-rise c =
     (ap (λ p. rises p (headIdentity (getD (c .args .heads .now) (c .loop-i .i) noHead))) (sym (c .loop-i .inv .1)) ∙ sym (c .if-not-is-rise .ensures tt)))
 
 pub loop-i-again : need.loop-i-again
-loop-i-again c =
-    (c .loop-i .inv .0
-    ∙ part-past rising IdentityOrder headIdentity (c .args .heads .now) (c .loop-i .i) noHead [] _ refl (c .loop-i-test .taken)
-    (ap (λ p. rises p (headIdentity (getD (c .args .heads .now) (c .loop-i .i) noHead))) (sym (c .loop-i .inv .1)) ∙ sym (c .if-not-is-rise .ensures tt)),
-    last-more headIdentity (c .args .heads .now) (c .loop-i .i) noHead (c .loop-i-test .taken))
+loop-i-again c = (
+  c .loop-i .inv .0
+      ∙ part-past rising IdentityOrder headIdentity (c .args .heads .now) (c .loop-i .i) noHead [] _ refl (c .loop-i-test .taken)
+      (ap (λ p. rises p (headIdentity (getD (c .args .heads .now) (c .loop-i .i) noHead))) (sym (c .loop-i .inv .1)) ∙ sym (c .if-not-is-rise .ensures tt)),
+  last-more headIdentity (c .args .heads .now) (c .loop-i .i) noHead (c .loop-i-test .taken),
+)
 
 pub returns : need.returns
 returns c = sym (ap (breach Text) (c .loop-i .inv .0) ∙ part-all rising IdentityOrder headIdentity (c .args .heads .now) (c .loop-i .i) Text (c .loop-i-test .left))

@@ -39,12 +39,13 @@ returns-then-not-are-apart c =
     (omega (arith, length-gathered (c .args .heads .now) (c .args .vehicles .now), c .loop-i-test .taken)) (sym (c .if-not-are-apart .ensures tt)))
 
 pub loop-i-again : need.loop-i-again
-loop-i-again c =
-    (c .loop-i .inv .0
-    ∙ part-past (alone namesApart) Repeated vehiclesOf (gathered (c .args .heads .now) (c .args .vehicles .now)) (c .loop-i .i) _ [] _
-    (here (c .args .heads .now) (c .args .vehicles .now) (c .loop-i .i) (c .loop-i .from) _ noHead noHead (c .loop-i .inv .1) (c .loop-i-test .taken) refl)
-    (omega (arith, length-gathered (c .args .heads .now) (c .args .vehicles .now), c .loop-i-test .taken)) (sym (c .if-not-are-apart .ensures tt)),
-    walk-more (c .args .heads .now) (c .args .vehicles .now) (c .loop-i .i) (c .loop-i .from) noHead (c .loop-i .inv .1) (c .loop-i-test .taken))
+loop-i-again c = (
+  c .loop-i .inv .0
+      ∙ part-past (alone namesApart) Repeated vehiclesOf (gathered (c .args .heads .now) (c .args .vehicles .now)) (c .loop-i .i) _ [] _
+      (here (c .args .heads .now) (c .args .vehicles .now) (c .loop-i .i) (c .loop-i .from) _ noHead noHead (c .loop-i .inv .1) (c .loop-i-test .taken) refl)
+      (omega (arith, length-gathered (c .args .heads .now) (c .args .vehicles .now), c .loop-i-test .taken)) (sym (c .if-not-are-apart .ensures tt)),
+  walk-more (c .args .heads .now) (c .args .vehicles .now) (c .loop-i .i) (c .loop-i .from) noHead (c .loop-i .inv .1) (c .loop-i-test .taken),
+)
 
 pub returns : need.returns
 returns c =
