@@ -26,14 +26,11 @@ use Rattle.fleet.specs.Rosters.{sameId, announced, forgotten, Full}
 use Rattle.fleet.specs.Seats.{used, isFree, isHere, consistIn, meaningIn, apartSeats, cleared, seatOf}
 use Rattle.fleet.specs.Seeks.{find}
 use Rattle.fleet.proofs.Heads.{never}
-use Rattle.fleet.proofs.Halves.{differ, differs}
+use Rattle.fleet.proofs.Halves.{same-self, differ, differs}
 use Rattle.fleet.proofs.Kept.{all-mapped, all-unmapped}
 use Rattle.fleet.proofs.Means.{find-ge}
 use Rattle.fleet.proofs.Changes.{id-same, head-zero, head-suc, none-parts, answers, put-own, put-free, clear-means}
 use Rattle.fleet.proofs.Sound.{seat-none}
-
-self : (a : List ℕ) → sameBytes a a ≡ true
-self a = sameBytes-decides a a .1 refl
 
 turned : (a b : Identity) → sameId a b ≡ false → sameId b a ≡ false
 turned a b e = differ (b .bytes) (a .bytes) (λ q. differs (a .bytes) (b .bytes) e (sym q))
@@ -148,7 +145,7 @@ more s ss x h = go (isHere x s)
 all-present : (ss : List Seat) → All (λ s. isFree s ≡ false) ss → All (λ s. isSome (meaningIn ss (s .identity)) ≡ true) ss
 all-present [] u = tt
 all-present (s ∷ ss) u =
-    let h : isHere (s .identity) s ≡ true = and-from (used s) (sameId (s .identity) (s .identity)) (ap not (u .0)) (self (s .identity .bytes)) in
+    let h : isHere (s .identity) s ≡ true = and-from (used s) (sameId (s .identity) (s .identity)) (ap not (u .0)) (same-self (s .identity .bytes)) in
     (rw h refl, all-weaker (λ t. isSome (meaningIn ss (t .identity)) ≡ true) (λ t. isSome (meaningIn (s ∷ ss) (t .identity)) ≡ true) (λ t k. more s ss (t .identity) k) ss (all-present ss (u .1)))
 
 away : (id : Identity) (ss : List Seat) → All (λ s. isFree s ≡ false) ss → isSome (meaningIn ss id) ≡ false → All (λ s. Apart id (s .identity)) ss

@@ -35,18 +35,14 @@ use Rattle.fleet.specs.Seats.{used, isFree, isHere, consistIn, meaningIn, room
 use Rattle.fleet.specs.Seeks.{find}
 use Rattle.fleet.proofs.Heads.{never, first-met}
 use Rattle.fleet.proofs.Kept.{alone-all, fresh-pairs}
-use Rattle.fleet.proofs.Means.{find-ge, none-go, at-go}
+use Rattle.fleet.proofs.Means.{find-ge, none-go}
+use Rattle.fleet.proofs.Readings.{counter-some, size-fits}
+use Rattle.fleet.proofs.Changes.{head-zero, head-suc}
 use Rattle.fleet.proofs.Whole.{not-some}
 
 each-lawful : (vs : List Vehicle) → All (λ v. wellFormed (v .name .bytes) ≡ true) vs → All (λ v. known (v .facing) ≡ true) vs → All IsVehicle vs
 each-lawful [] h k = tt
 each-lawful (v ∷ vs) h k = (record { named = name-rule (v .name .bytes) .0 (h .0); faced = k .0 }, each-lawful vs (h .1) (k .1))
-
-counted-is : (n : ℕ) → not (eqb n 0) ≡ true → 1 ≤ n
-counted-is n h = grind (arith, tells)
-
-sized-is : (n : ℕ) → leb 1 n && leb n 32 ≡ true → (1 ≤ n) × (n ≤ 32)
-sized-is n h = (grind (arith, tells), grind (arith, tells))
 
 -- a consist that none of its checks refuses
 pub checks-lawful : (id : Identity) (n : ℕ) (vs : List Vehicle) → n ≤ 4294967295 → refusal Roster (consistChecks id n vs) ≡ None → IsConsist (record { counter = n; vehicles = vs })
@@ -57,9 +53,9 @@ checks-lawful id n vs fits e =
     let d = first-met Roster (each (alone (λ v. wellFormed (v .name .bytes))) NameForm vs) _ (c .1) in
     let f = first-met Roster (each (alone (λ v. known (v .facing))) UnknownFacing vs) _ (d .1) in
     let g = first-met Roster (each (fresh (by sameBytes (λ v. v .name .bytes))) Repeated vs) _ (f .1) in
-    let s = sized-is (length vs) (c .0) in
+    let s = size-fits (length vs) (c .0) in
     record {
-      counted = counted-is n (b .0);
+      counted = counter-some n (b .0);
       fits = fits;
       some = s .0;
       few = s .1;
@@ -127,21 +123,13 @@ filled-sound q id n vs i c w f e v =
 at-seat : (id : Identity) (d : Seat) (n : ℕ) (ss : List Seat) (i : ℕ) → find (isHere id) n ss ≡ Some (n + i) → (meaningIn ss id ≡ Some (consistIn (getD ss i d))) × (isHere id (getD ss i d) ≡ true)
 at-seat id d n [] i e = never (n + i) (sym e)
 at-seat id d n (s ∷ ss) zero e =
-    let h = here (isHere id s) n (find (isHere id) (n + 1) ss) e (λ q. find-ge (isHere id) (n + 1) ss (n + 0) q) in
+    let h = head-zero (isHere id s) n (find (isHere id) (n + 1) ss) e (λ q. find-ge (isHere id) (n + 1) ss (n + 0) q) in
     (rw h refl, h)
-  where
-    here : (b : Bool) (n : ℕ) (o : Option ℕ) → cond b (Some n) o ≡ Some (n + 0) → (o ≡ Some (n + 0) → n + 1 ≤ n + 0) → b ≡ true
-    here true n o e f = refl
-    here false n o e f = let q = f e in absurd (omega arith)
 at-seat id d n (s ∷ ss) (suc i) e =
-    let t = later (isHere id s) n i (find (isHere id) (n + 1) ss) e in
+    let t = head-suc (isHere id s) n i (find (isHere id) (n + 1) ss) e in
     let h = t .0 in
     let r = at-seat id d (n + 1) ss i (t .1) in
     (rw h (r .0), r .1)
-  where
-    later : (b : Bool) (n k : ℕ) (o : Option ℕ) → cond b (Some n) o ≡ Some (n + suc k) → (b ≡ false) × (o ≡ Some (n + 1 + k))
-    later true n k o e = let q : n ≡ n + suc k = cc in absurd (omega arith)
-    later false n k o e = let z : n + suc k ≡ n + 1 + k = omega arith in (refl, e ∙ ap (λ (x : ℕ). Some x) z)
 
 sound-at : (ss : List Seat) (i : ℕ) (d : Seat) → i < length ss → soundSeats ss ≡ true → soundSeat (getD ss i d) ≡ true
 sound-at [] i d l h = absurd (omega arith)

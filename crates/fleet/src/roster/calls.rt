@@ -12,8 +12,6 @@ use super::*;
 use crate::questions::Fleet;
 use crate::questions::Found;
 use crate::questions::Meant;
-use train::facing::Facing;
-use train::name::Name;
 use train::refusal::Reason;
 use train::refusal::Refusal;
 
@@ -22,15 +20,11 @@ impl Roster {
     pub fn new() -> Roster
         ensures { λ r. ⌜ ((id : Id) → meant r id ≡ None) ⌝ }
     {
-        let vehicle = Vehicle {
-            name: Name { bytes: [0; 16] },
-            facing: Facing::NotKnown,
-        };
         let seat = Seat {
             identity: Identity { bytes: [0; 16] },
             counter: 0,
             count: 0,
-            vehicles: [vehicle; 32],
+            vehicles: [NO_VEHICLE; 32],
         };
         Roster { seats: [seat; 63] }
     }

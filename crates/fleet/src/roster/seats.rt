@@ -23,6 +23,12 @@ use train::refusal::Place;
 use train::refusal::Reason;
 use train::refusal::Refusal;
 
+/// What fills the seats behind the vehicles.
+pub const NO_VEHICLE: Vehicle = Vehicle {
+    name: Name { bytes: [0; 16] },
+    facing: Facing::NotKnown,
+};
+
 pub fn refuse(reason: Reason) -> Refusal
     ensures { λ r. ⌜ r ≡ record { part = InRoster; reason = reason; place = Place.At 0 } ⌝ }
 {
@@ -110,11 +116,7 @@ pub fn filled(identity: Identity, counter: u32, vehicles: &[Vehicle]) -> Seat
     ensures consist { λ r. ⌜ consistIn r ≡ record { counter = counter; vehicles = now (vehicles .entry) } ⌝ }
 {
     let count = vehicles.len();
-    let vehicle = Vehicle {
-        name: Name { bytes: [0; 16] },
-        facing: Facing::NotKnown,
-    };
-    let mut all = [vehicle; 32];
+    let mut all = [NO_VEHICLE; 32];
     all[0..count].copy_from_slice(vehicles);
     Seat {
         identity,
