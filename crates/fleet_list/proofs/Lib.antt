@@ -19,3 +19,7 @@ mod Lawful
 mod Decides
 mod Stores
 mod Ready
+mod Sizes
+mod Loads
+mod Long
+mod Shows

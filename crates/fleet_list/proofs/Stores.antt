@@ -11,6 +11,7 @@ use Rattle.std.specs.declared.option.Option.the-variants.{Some, None}
 use Rattle.std.proofs.shelf.Lists.{take-all}
 use Rattle.std.proofs.shelf.Tests.{lt-leb, le-leb}
 use Rattle.train.specs.declared.entries.Vehicle.{Vehicle}
+use Rattle.train.specs.declared.refusal.Part.{Part}
 use Rattle.train.specs.declared.refusal.Part.the-variants.{Text}
 use Rattle.train.specs.declared.refusal.Place.the-variants.{At}
 use Rattle.train.specs.declared.refusal.Reason.{Reason}
@@ -56,19 +57,19 @@ past-apart : (hs : List Head) (vs : List Vehicle) (room : ℕ) → None ≡ brea
     → refusal Text (entryChecks (gathered hs vs) room) ≡ refusal Text (roomFor (length (bookOf (gathered hs vs))) room ∷ [])
 past-apart hs vs room r e = past-rise hs vs room r ∙ met Text (each (alone namesApart) Repeated (map vehiclesOf (gathered hs vs))) (roomFor (length (bookOf (gathered hs vs))) room ∷ []) (sym e)
 
-pub short-of : (need room : ℕ) → room < need → refusal Text (roomFor need room ∷ []) ≡ Some (record { part = Text; reason = BufferShort; place = At need })
-short-of need room l = let e = lt-leb need room l in simp e
+pub short-of : (part : Part) (need room : ℕ) → room < need → refusal part (roomFor need room ∷ []) ≡ Some (record { part = part; reason = BufferShort; place = At need })
+short-of part need room l = let e = lt-leb need room l in simp e
 
-pub enough : (need room : ℕ) → need ≤ room → refusal Text (roomFor need room ∷ []) ≡ None
-enough need room l = let e = le-leb need room l in simp e
+pub enough : (part : Part) (need room : ℕ) → need ≤ room → refusal part (roomFor need room ∷ []) ≡ None
+enough part need room l = let e = le-leb need room l in simp e
 
 pub at-room : (hs : List Head) (vs : List Vehicle) (room need : ℕ) → None ≡ breach Text (each rising IdentityOrder (map headIdentity hs)) → None ≡ breach Text (each (alone namesApart) Repeated (map vehiclesOf (gathered hs vs)))
     → length (bookOf (gathered hs vs)) ≡ need → room < need → refusal Text (entryChecks (gathered hs vs) room) ≡ Some (record { part = Text; reason = BufferShort; place = At need })
-at-room hs vs room need r e n l = past-apart hs vs room r e ∙ ap (λ z. refusal Text (roomFor z room ∷ [])) n ∙ short-of need room l
+at-room hs vs room need r e n l = past-apart hs vs room r e ∙ ap (λ z. refusal Text (roomFor z room ∷ [])) n ∙ short-of Text need room l
 
 pub at-none : (hs : List Head) (vs : List Vehicle) (room need : ℕ) → None ≡ breach Text (each rising IdentityOrder (map headIdentity hs)) → None ≡ breach Text (each (alone namesApart) Repeated (map vehiclesOf (gathered hs vs)))
     → length (bookOf (gathered hs vs)) ≡ need → need ≤ room → refusal Text (entryChecks (gathered hs vs) room) ≡ None
-at-none hs vs room need r e n l = past-apart hs vs room r e ∙ ap (λ z. refusal Text (roomFor z room ∷ [])) n ∙ enough need room l
+at-none hs vs room need r e n l = past-apart hs vs room r e ∙ ap (λ z. refusal Text (roomFor z room ∷ [])) n ∙ enough Text need room l
 
 -- too many lines, too many vehicles, or neither
 

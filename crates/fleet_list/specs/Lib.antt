@@ -11,3 +11,4 @@ pub mod Readings
 pub mod Writes
 pub mod Imports
 pub mod Entries
+pub mod Exports

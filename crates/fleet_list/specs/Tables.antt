@@ -24,6 +24,10 @@ abbrev pub counts : List Head → ℕ
 counts [] = 0
 counts (h ∷ hs) = h .count + counts hs
 
+-- the line of a head and its vehicles
+abbrev pub rowText : Head → List Vehicle → List ℕ
+rowText h vs = lineText (record { identity = h .identity; consist = record { counter = h .counter; vehicles = vs } })
+
 -- what the reader of a line answers: its head, the vehicles in the room that was lent to it, and the place past the line
 abbrev pub LineAnswer : List ℕ → ℕ → List Vehicle → Result (Head × ℕ) Refusal → Type 0
 LineAnswer t line room (Ok r) = Reads IsLine lineText t 0 (itemOf (r .0) room) (r .1) × (r .0 .count ≤ length room)

@@ -23,9 +23,9 @@ escaped b = cond (eqb b 34) (92 ∷ b ∷ []) (cond (eqb b 92) (92 ∷ b ∷ [])
 abbrev pub quoted : List ℕ → List ℕ
 quoted text = 34 ∷ (joined escaped text ++ 34 ∷ [])
 
--- + for direct, - for inverse
+-- + for direct, - for inverse; no fleet has a facing that is not known
 abbrev pub sign : Facing → List ℕ
-sign NotKnown = []
+sign NotKnown = 63 ∷ []
 sign Direct = 43 ∷ []
 sign Inverse = 45 ∷ []
 
