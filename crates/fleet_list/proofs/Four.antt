@@ -127,6 +127,10 @@ back-by i g (v ∷ vs) e =
 back : (i : Item) → IsLine i → (p : Parts) × GoodParts p × (lineText i ≡ partsText p)
 back i g = let b = back-by i g (i .consist .vehicles) refl in (b .0, b .1, b .2)
 
+-- where the parts break, so does the line
+pub line-breaks : (t : List ℕ) (k : ℕ) → Breaks GoodParts partsText t k → Breaks IsLine lineText t k
+line-breaks t k b = same-breaks GoodParts partsText IsLine lineText t k into back b
+
 line-refused : (t : List ℕ) (from line : ℕ) (x : Refusal) → Refused GoodParts partsText t from line x → Refused IsLine lineText t from line x
 line-refused t from line x r = refused-same GoodParts partsText IsLine lineText t from line x into back r
 

@@ -1,6 +1,6 @@
 -- The checks of import: lines that meet them are a fleet, and a fleet meets them.
 use mathlib.Core.Path.{_≡_, refl, sym, ap, ap₂, subst, _∙_}
-use mathlib.Core.Bool.{Bool, true, false, not, _&&_, _||_}
+use mathlib.Core.Bool.{Bool, true, false, cond, not, _&&_, _||_}
 use mathlib.Core.List.{List, [], _∷_, _++_, map}
 use Prim.Native.Nat.{ℕ, suc, _+_, _*_, _≤_, _<_}
 use native.Mathlib.Omega.{arith}
@@ -8,13 +8,13 @@ use lib.Dec.{leb}
 use lib.ListN.{length, length-append}
 use Rattle.std.specs.shelf.Lists.{All}
 use Rattle.std.specs.shelf.Text.{sameBytes}
-use Rattle.std.specs.declared.option.Option.the-variants.{None}
+use Rattle.std.specs.declared.option.Option.the-variants.{Some, None}
 use Rattle.std.proofs.shelf.Tests.{and-parts, and-from, or-parts, not-true, not-from-false, leb-true, le-leb}
 use Rattle.train.specs.declared.entries.Vehicle.{Vehicle}
 use Rattle.train.specs.declared.refusal.Part.the-variants.{Text}
 use Rattle.train.specs.declared.refusal.Reason.the-variants.{ConsistCount, VehicleCount, IdentityOrder, Repeated}
 use Rattle.train.specs.Octets.{below, zeros}
-use Rattle.train.specs.Refusals.{must, each, alone, keeps, fresh, by, among, refusal}
+use Rattle.train.specs.Refusals.{Check, orElse, must, each, alone, keeps, fresh, by, among, refusal}
 use Rattle.train.proofs.Bytes.{nowhere, below-trans}
 use Rattle.fleet.specs.Fleets.{IsVehicle, Apart}
 use Rattle.fleet.specs.Books.{Item, IsItem, IsFleet, Rising, vehiclesIn, bookOf, flat, itemRow, vehicleRow, two, four}
@@ -141,19 +141,23 @@ lawful is room l few small h =
       each = all-both IsLine (λ i. Real i × (namesApart (vehiclesOf i) ≡ true)) IsItem item is l (all-both Real (λ i. namesApart (vehiclesOf i) ≡ true) (λ i. Real i × (namesApart (vehiclesOf i) ≡ true)) (λ i x y. (x, y)) is (r .2) n);
     }
 
--- and a fleet meets them
-pub passes : (is : List Item) (room : ℕ) → IsFleet is → length (bookOf is) ≤ room → refusal Text (listChecks is room) ≡ None
-passes is room f l =
+-- and a fleet meets all checks but that of the room
+pub only-room : (is : List Item) (room : ℕ) → IsFleet is → refusal Text (listChecks is room) ≡ refusal Text (roomFor (length (bookOf is)) room ∷ [])
+only-room is room f =
     let rise = each rising IdentityOrder (map identityIn is) in
     let once = each (alone namesApart) Repeated (map vehiclesOf is) in
     let fits = roomFor (length (bookOf is)) room in
-    none-first Text (must (leb (length is) 200) ConsistCount) (must (leb (length (vehiclesIn is)) 2000) VehicleCount ∷ rise ∷ once ∷ fits ∷ []) (le-leb (length is) 200 (f .short))
-    (none-first Text (must (leb (length (vehiclesIn is)) 2000) VehicleCount) (rise ∷ once ∷ fits ∷ []) (le-leb (length (vehiclesIn is)) 2000 (f .small))
-    (none-first Text rise (once ∷ fits ∷ [])
+    ok-first (must (leb (length is) 200) ConsistCount) (must (leb (length (vehiclesIn is)) 2000) VehicleCount ∷ rise ∷ once ∷ fits ∷ []) (le-leb (length is) 200 (f .short))
+    ∙ ok-first (must (leb (length (vehiclesIn is)) 2000) VehicleCount) (rise ∷ once ∷ fits ∷ []) (le-leb (length (vehiclesIn is)) 2000 (f .small))
+    ∙ ok-first rise (once ∷ fits ∷ [])
     (rises-back [] is (all-map IsItem (Above []) (λ i g. above-none (identityIn i) (g .whole)) is (f .each)) (f .rising) (all-map IsItem Real (λ i g. g .real) is (f .each)))
-    (none-first Text once (fits ∷ [])
-    (alone-back [] is (all-map IsItem (λ i. namesApart (vehiclesOf i) ≡ true) (λ i g. apart-is (vehiclesOf i) (g .consist .apart)) is (f .each)))
-    (none-first Text fits [] (le-leb (length (bookOf is)) room l) refl))))
+    ∙ ok-first once (fits ∷ []) (alone-back [] is (all-map IsItem (λ i. namesApart (vehiclesOf i) ≡ true) (λ i g. apart-is (vehiclesOf i) (g .consist .apart)) is (f .each)))
+  where
+    ok-first : (c : Check) (cs : List Check) → c .ok ≡ true → refusal Text (c ∷ cs) ≡ refusal Text cs
+    ok-first c cs e = ap (λ b. orElse (cond b None (Some (record { part = Text; reason = c .reason; place = c .place }))) (refusal Text cs)) e
+
+pub passes : (is : List Item) (room : ℕ) → IsFleet is → length (bookOf is) ≤ room → refusal Text (listChecks is room) ≡ None
+passes is room f l = only-room is room f ∙ none-first Text (roomFor (length (bookOf is)) room) [] (le-leb (length (bookOf is)) room l) refl
 
 -- the length of a book
 

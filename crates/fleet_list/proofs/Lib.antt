@@ -23,3 +23,5 @@ mod Sizes
 mod Loads
 mod Long
 mod Shows
+mod Journeys
+mod Examples

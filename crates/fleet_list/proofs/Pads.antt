@@ -13,11 +13,11 @@ use Rattle.train.specs.Names.{IsName, textOf, padded}
 use Rattle.fleet_list.specs.declared.name_reader.NameReader.{NameReader}
 use Rattle.fleet_list.specs.Steps.{nameOf}
 use Rattle.fleet_list.specs.Texts.{quoted}
-use Rattle.fleet_list.specs.Forms.{Front, Reads, Refused}
+use Rattle.fleet_list.specs.Forms.{Front, Breaks, Reads, Refused}
 use Rattle.fleet_list.specs.Parts.{nameText}
 use Rattle.fleet_list.proofs.Turns.{Filled}
 use Rattle.fleet_list.proofs.Link.{Plain, Good, front-name}
-use Rattle.fleet_list.proofs.Seq.{refused-same}
+use Rattle.fleet_list.proofs.Seq.{refused-same, same-breaks}
 
 text-padded : (n : List ℕ) (k : ℕ) → Plain n → textOf (n ++ replicate k 0) ≡ n
 text-padded [] zero h = refl
@@ -39,6 +39,9 @@ into n g = (padded n, named n g, ap quoted (text-is (padded n) (named n g)))
 
 back : (bs : List ℕ) → IsName bs → (n : List ℕ) × Good n × (nameText bs ≡ quoted n)
 back bs g = (g .text, texted bs g, ap quoted (text-is bs g))
+
+pub name-breaks : (t : List ℕ) (k : ℕ) → Breaks Good quoted t k → Breaks IsName nameText t k
+name-breaks t k b = same-breaks Good quoted IsName nameText t k into back b
 
 pub name-refused : (t : List ℕ) (from line : ℕ) (f : Refusal) → Refused Good quoted t from line f → Refused IsName nameText t from line f
 name-refused t from line f r = refused-same Good quoted IsName nameText t from line f into back r

@@ -12,3 +12,5 @@ pub mod Writes
 pub mod Imports
 pub mod Entries
 pub mod Exports
+pub mod Trips
+pub mod Laws

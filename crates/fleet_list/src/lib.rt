@@ -13,4 +13,5 @@ mod name_reader;
 mod tables;
 mod text_size;
 mod text_writer;
+pub mod trips;
 mod vehicle_reader;
