@@ -1,17 +1,12 @@
 -- Bytes are written from the front on: `a` stands at the front of what was `xs`, and a write behind it makes it longer.
 use mathlib.Core.Path.{_≡_, refl, sym, _∙_, ap, subst}
 use mathlib.Core.List.{List, [], _∷_, _++_, append-assoc}
-use Prim.Native.Nat.{ℕ, suc, _+_, _-_, _≤_, _<_}
+use Prim.Native.Nat.{ℕ, _+_, _-_, _≤_, _<_}
 use native.Mathlib.Omega.{arith}
 use lib.ListN.{length, take, drop, set}
 use borrow.Rule.Slice.PartMut.{putMid}
 use Rattle.fleet_list.specs.Writes.{Written}
 use Rattle.std.proofs.shelf.Lists.{take-at, drop-at, drop-drop, drop-more, set-append-right, drop-all, length-drop, length-append, take-rest, take-all, append-nil}
-
--- after a copy into `out[n..n + m]`
-pub behind : (a b xs : List ℕ) (n m : ℕ) → length a ≡ n → putMid n m (a ++ drop n xs) b ≡ (a ++ b) ++ drop (n + m) xs
-behind a b xs n m h =
-    rw (take-at a (drop n xs) n h, drop-at a (drop n xs) n h, drop-drop m n xs) (sym (append-assoc a b (drop (n + m) xs)))
 
 -- after a store at `out[n]`
 pub one-behind : (a xs : List ℕ) (n v : ℕ) → length a ≡ n → n < length xs → set (a ++ drop n xs) n v ≡ (a ++ v ∷ []) ++ drop (n + 1) xs
@@ -28,16 +23,6 @@ lent-behind a b xs n m k h l w e =
     let none : drop k (drop n xs) ≡ [] = drop-all k (drop n xs) (omega (arith, length-drop n xs)) in
     rw (take-at a (drop n xs) n h, drop-at a (drop n xs) n h, rest, none, drop-drop m n xs, append-nil)
     (sym (append-assoc a b (drop (n + m) xs)))
-
--- three copies, one behind another, into `out[0..n]`, `out[n..p]` and `out[p..q]`
-pub three : {a′ b′ t′ a b t : List ℕ} (xs : List ℕ) (n m k : ℕ) → a′ ≡ a → b′ ≡ b → t′ ≡ t → length a ≡ n → length b ≡ m
-    → putMid (n + m) k (putMid n m (a′ ++ drop n xs) b′) t′ ≡ (a ++ (b ++ t)) ++ drop (n + m + k) xs
-three {a′} {b′} {t′} {a} {b} {t} xs n m k ea eb et ha hb =
-    let h : length (a ++ b) ≡ n + m = simp length-append (omega arith) in
-    let one = behind a b xs n m ha in
-    let two = behind (a ++ b) t xs (n + m) k h in
-    let flat = append-assoc a b t in
-    cc
 
 -- a loan of `out[n..]` to a writer, behind what a writer has written
 pub then-lent : (a b xs : List ℕ) {out last : List ℕ} (n m k : ℕ) → out ≡ a ++ drop n xs → length a ≡ n → last ≡ b ++ drop m (take k (drop n out)) → length b ≡ m

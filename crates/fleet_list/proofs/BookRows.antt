@@ -1,21 +1,17 @@
 -- The book of the consists in tables: its bytes row by row, and its length.
-use mathlib.Core.Path.{_≡_, refl, sym, ap, ap₂, subst, _∙_}
+use mathlib.Core.Path.{_≡_, refl, ap, ap₂, _∙_}
 use mathlib.Core.List.{List, [], _∷_, _++_, map, append-assoc}
-use Prim.Native.Nat.{ℕ, suc, _+_, _*_, _/_, _%_, _^_, _≤_, _<_}
+use Prim.Native.Nat.{ℕ, _+_, _/_, _%_, _^_, _≤_, _<_}
 use native.Mathlib.Omega.{arith}
-use lib.ListN.{length, take, drop, length-append, length-drop, length-replicate}
+use lib.ListN.{length, drop, length-append, length-drop}
 use lib.Seq.{length-take-le}
 use Rattle.std.specs.Joined.{joined}
-use Rattle.std.specs.shelf.Lists.{All}
 use Rattle.std.proofs.shelf.Lists.{take-all}
 use Rattle.train.specs.declared.entries.Vehicle.{Vehicle}
 use Rattle.train.specs.Facings.{code}
-use Rattle.train.specs.Names.{IsName}
 use Rattle.fleet_list.specs.declared.tables.Head.{Head}
-use Rattle.fleet.specs.Fleets.{IsVehicle}
-use Rattle.fleet.specs.Books.{Item, vehiclesIn, flat, itemRow, vehicleRow, two, four, bookOf}
+use Rattle.fleet.specs.Books.{vehiclesIn, flat, itemRow, vehicleRow, two, four, bookOf}
 use Rattle.fleet_list.specs.Entries.{headRow}
-use Rattle.fleet_list.specs.Lists.{IsLine}
 use Rattle.fleet_list.specs.Tables.{gathered, counts}
 use Rattle.fleet_list.proofs.Gathers.{length-gathered, gathered-vehicles}
 

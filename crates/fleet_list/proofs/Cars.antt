@@ -1,6 +1,5 @@
 -- Vehicles behind one another.
 use mathlib.Core.Path.{_≡_, refl, sym, ap, subst, _∙_}
-use mathlib.Core.Bool.{Bool, true, false, cond}
 use mathlib.Core.Logic.{_⊎_, inl, inr, ⊎-elim}
 use mathlib.Core.List.{List, [], _∷_, _++_, append-assoc}
 use Prim.Native.Nat.{ℕ, zero, suc, _+_, _≤_, _<_}
@@ -13,13 +12,10 @@ use Rattle.std.specs.shelf.Lists.{All}
 use Rattle.std.proofs.shelf.Lists.{take-more-set, joined-more}
 use Rattle.train.specs.declared.refusal.Refusal.{Refusal}
 use Rattle.train.specs.declared.entries.Vehicle.{Vehicle}
-use Rattle.fleet_list.specs.Forms.{Breaks}
-use Rattle.fleet_list.specs.Forms.{Front, Both, joint, Reads, Refused}
-use Rattle.fleet_list.specs.Parts.{nameText, Known, Car, GoodCar, car, spaced, others, Few}
+use Rattle.fleet_list.specs.Forms.{Breaks, Front, Both, joint, Reads, Refused}
+use Rattle.fleet_list.specs.Parts.{nameText, Known, Car, GoodCar, car, spaced, others, Few, carOf, cars}
 use Rattle.fleet_list.specs.Texts.{sign}
-use Rattle.fleet_list.specs.Parts.{carOf, cars}
 use Rattle.train.specs.Names.{IsName}
-use Rattle.train.specs.declared.facing.Facing.{Facing}
 use Rattle.train.specs.declared.facing.Facing.the-variants.{NotKnown, Direct, Inverse}
 use Rattle.train.proofs.Bytes.{nowhere}
 use Rattle.fleet_list.proofs.Pads.{front-named}

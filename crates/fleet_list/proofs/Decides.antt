@@ -1,18 +1,16 @@
 -- What a text is decides what import answers.
-use mathlib.Core.Path.{_≡_, refl, sym, ap, subst, _∙_}
-use mathlib.Core.Logic.{_⊎_, inl, inr}
+use mathlib.Core.Path.{sym, ap, _∙_}
+use mathlib.Core.Logic.{inl, inr}
 use mathlib.Core.List.{List}
 use Prim.Native.Nat.{ℕ}
 use native.Mathlib.Omega.{arith}
 use lib.ListN.{length}
-use Rattle.std.specs.shelf.Lists.{All}
 use Rattle.std.specs.declared.option.Option.the-variants.{Some}
 use Rattle.std.specs.declared.result.Result.{Result}
 use Rattle.std.specs.declared.result.Result.the-variants.{Ok, Err}
 use Rattle.train.specs.declared.refusal.Part.the-variants.{Text}
 use Rattle.train.specs.declared.refusal.Refusal.{Refusal}
 use Rattle.train.specs.Refusals.{refusal}
-use Rattle.fleet.specs.Books.{Item}
 use Rattle.fleet_list.specs.Imports.{listChecks, Imported, Decided}
 use Rattle.fleet_list.proofs.Back.{apart, broken-no-list, broken-once}
 use Rattle.fleet_list.proofs.Lawful.{passes}

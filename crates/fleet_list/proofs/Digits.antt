@@ -2,18 +2,16 @@
 use mathlib.Core.Path.{_≡_, refl, sym, ap, subst, _∙_}
 use mathlib.Core.Bool.{Bool, true, false, cond}
 use mathlib.Core.List.{List, [], _∷_, _++_, append-assoc}
-use Prim.Native.Nat.{ℕ, _+_, _-_, _*_, _/_, _%_, _^_, _≤_, _<_}
+use Prim.Native.Nat.{ℕ, _+_, _-_, _*_, _/_, _%_, _≤_, _<_}
 use native.Mathlib.Omega.{arith}
 use lib.Dec.{eqb, ltb, leb}
 use borrow.Author.Tests.{ne-eqb, eqb-true, eqb-false, ltb-true, leb-true, lt-ltb, le-leb}
 use Rattle.std.specs.Written.{decimal}
 use Rattle.std.proofs.shelf.Decimals.{decimal-digit, decimal-step, decimal-by-steps}
 use Rattle.fleet_list.specs.Machine.{Turn, refuse, next, done}
-use Rattle.fleet_list.proofs.Stops.{Got, got, bad, run}
-use Rattle.fleet_list.specs.Forms.{Viable, Breaks}
+use Rattle.fleet_list.proofs.Stops.{got, bad, run, went, is-went, Ends, breaks}
+use Rattle.fleet_list.specs.Forms.{Breaks, Front}
 use Rattle.fleet_list.specs.Counters.{digit, Counter as Good, counterText as print}
-use Rattle.fleet_list.specs.Forms.{Front}
-use Rattle.fleet_list.proofs.Stops.{went, is-went, Ends, breaks}
 
 abbrev Told : Turn ℕ ℕ → ℕ → ℕ → Type 0
 Told refuse v b = Unit {0}

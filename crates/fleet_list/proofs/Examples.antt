@@ -7,14 +7,12 @@ use lib.ListN.{length}
 use Rattle.std.proofs.shelf.Decimals.{decimal-digit}
 use Rattle.train.specs.declared.facing.Facing.the-variants.{Direct}
 use Rattle.train.specs.Names.{IsName}
-use Rattle.fleet.specs.Books.{Item, IsFleet, bookOf, fleetOf}
+use Rattle.fleet.specs.Books.{fleetOf}
 use Rattle.fleet.proofs.Whole.{written}
 use Rattle.fleet_list.specs.Counters.{Counter, counterText}
-use Rattle.fleet_list.specs.Forms.{Both, joint, Breaks, fault}
+use Rattle.fleet_list.specs.Forms.{Both, joint, Breaks}
 use Rattle.fleet_list.specs.Laws.{OneToOne, Examples, wrongName}
-use Rattle.fleet_list.specs.Lists.{IsLine, lineText}
 use Rattle.fleet_list.specs.Parts.{nameText, Known, GoodCar, car, Few, others, Bytes, bytesText}
-use Rattle.fleet_list.specs.Readings.{Broken}
 use Rattle.fleet_list.specs.Texts.{quoted, sign}
 use Rattle.fleet_list.proofs.Back.{apart, broken-once, broken-no-list}
 use Rattle.fleet_list.proofs.Digits.{front-counter}

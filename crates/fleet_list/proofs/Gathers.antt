@@ -1,12 +1,11 @@
 -- Consists in tables.
-use mathlib.Core.Path.{_≡_, refl, sym, ap, ap₂, subst, _∙_}
+use mathlib.Core.Path.{_≡_, refl, sym, ap, ap₂, _∙_}
 use mathlib.Core.List.{List, [], _∷_, _++_, append-assoc}
 use Prim.Native.Nat.{ℕ, suc, _+_, _-_, _≤_, _<_}
-use native.Mathlib.Nat.{zero-add}
 use native.Mathlib.Omega.{arith}
-use lib.ListN.{length, take, drop, getD, length-append, length-drop}
-use lib.Seq.{length-take-le, take-take, drop-drop}
-use Rattle.std.proofs.shelf.Lists.{drop-take, drop-more, drop-all, take-all}
+use lib.ListN.{length, take, drop, getD, length-drop}
+use lib.Seq.{take-take, drop-drop}
+use Rattle.std.proofs.shelf.Lists.{drop-take, drop-more}
 use Rattle.train.specs.declared.entries.Vehicle.{Vehicle}
 use Rattle.fleet_list.specs.declared.tables.Head.{Head}
 use Rattle.fleet.specs.Books.{Item, vehiclesIn}

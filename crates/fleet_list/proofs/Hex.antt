@@ -1,25 +1,23 @@
 -- Hex digits, bytes and identities.
 use mathlib.Core.Path.{_≡_, refl, sym, ap, subst, _∙_}
 use mathlib.Core.Bool.{Bool, true, false, cond}
-use mathlib.Core.Logic.{_⊎_, inl, inr, ⊎-elim}
-use mathlib.Core.List.{List, [], _∷_, _++_, append-assoc}
+use mathlib.Core.Logic.{inl, inr}
+use mathlib.Core.List.{List, [], _∷_, _++_}
 use Prim.Native.Nat.{ℕ, zero, suc, _+_, _*_, _/_, _%_, _≤_, _<_}
 use native.Mathlib.Nat.{zero-add}
 use native.Mathlib.Omega.{arith}
 use lib.Dec.{ltb}
-use lib.ListN.{length, take, drop, set, length-set}
+use lib.ListN.{length, take, set, length-set}
 use lib.Seq.{length-take-le}
 use borrow.Author.Tests.{ltb-true, ltb-false}
 use Rattle.std.specs.Joined.{joined}
 use Rattle.std.specs.shelf.Lists.{All}
 use Rattle.std.proofs.shelf.Lists.{take-more-set, joined-more, take-all}
 use Rattle.train.specs.declared.refusal.Refusal.{Refusal}
-use Rattle.fleet_list.specs.Forms.{Breaks}
-use Rattle.fleet_list.specs.Forms.{Front, Both, joint, Reads, Refused}
+use Rattle.fleet_list.specs.Forms.{Breaks, Front, Both, joint, Reads, Refused}
 use Rattle.fleet_list.specs.Texts.{hex, byteText}
-use Rattle.fleet_list.specs.Parts.{Nibble, digitText, Byte, bytesText, Bytes}
-use Rattle.fleet_list.specs.Parts.{IsHex}
-use Rattle.fleet_list.proofs.Seq.{in-first, behind, same-breaks, First, Begun, begun-more, begun-byte, begun-read, reads-begun, refused-behind}
+use Rattle.fleet_list.specs.Parts.{Nibble, digitText, Byte, bytesText, Bytes, IsHex}
+use Rattle.fleet_list.proofs.Seq.{in-first, behind, same-breaks, First, Begun, begun-more, begun-read, reads-begun, refused-behind}
 
 hex-is-by : (n : ℕ) (z : Bool) → ltb n 10 ≡ z → n < 16 → IsHex (cond z (48 + n) (87 + n))
 hex-is-by n true z l = let k = ltb-true n 10 z in inl (omega arith, omega arith)

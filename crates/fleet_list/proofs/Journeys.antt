@@ -1,15 +1,14 @@
 -- What the round trips answer.
-use mathlib.Core.Path.{_≡_, refl, sym, ap, ap₂, subst, _∙_}
+use mathlib.Core.Path.{_≡_, refl, sym, ap, subst, _∙_}
 use mathlib.Core.Bool.{Bool, true, false, cond}
-use mathlib.Core.Logic.{_⊎_, inl, inr}
+use mathlib.Core.Logic.{inr}
 use mathlib.Core.List.{List, [], _∷_, _++_, map}
-use Prim.Native.Nat.{ℕ, zero, suc, _≤_, _<_}
+use Prim.Native.Nat.{ℕ, _<_}
 use native.Mathlib.Omega.{arith}
 use lib.Dec.{leb}
-use lib.ListN.{length, take, drop, getD}
+use lib.ListN.{length, take, drop}
 use Rattle.std.specs.shelf.Lists.{All}
 use Rattle.std.specs.declared.option.Option.the-variants.{Some, None}
-use Rattle.std.specs.declared.result.Result.{Result}
 use Rattle.std.specs.declared.result.Result.the-variants.{Ok, Err}
 use Rattle.std.proofs.shelf.Lists.{take-at}
 use Rattle.std.proofs.shelf.Tests.{leb-false}
@@ -18,11 +17,11 @@ use Rattle.train.specs.declared.refusal.Part.the-variants.{Text, Book}
 use Rattle.train.specs.declared.refusal.Place.the-variants.{At}
 use Rattle.train.specs.declared.refusal.Reason.the-variants.{BufferShort}
 use Rattle.train.specs.declared.refusal.Refusal.{Refusal}
-use Rattle.train.specs.Refusals.{refusal, refusalOf, orElse}
+use Rattle.train.specs.Refusals.{refusal, orElse}
 use Rattle.fleet.specs.Books.{Item, IsItem, IsFleet, IsBook, fleetOf, bookOf, bookChecks, flat, itemRow, vehicleRow, vehiclesIn, two, four}
 use Rattle.fleet.proofs.Whole.{written}
 use Rattle.fleet_list.specs.Exports.{Exported, Listing}
-use Rattle.fleet_list.specs.Imports.{Imported, Decided, Carried, roomFor, listChecks}
+use Rattle.fleet_list.specs.Imports.{Decided, Carried, roomFor}
 use Rattle.fleet_list.specs.Lists.{IsLine, listText}
 use Rattle.fleet_list.specs.Trips.{TooShort, ListTrip, BookTrip}
 use Rattle.fleet_list.specs.Writes.{Written}

@@ -1,21 +1,21 @@
 -- The checks of import: lines that meet them are a fleet, and a fleet meets them.
 use mathlib.Core.Path.{_≡_, refl, sym, ap, ap₂, subst, _∙_}
-use mathlib.Core.Bool.{Bool, true, false, cond, not, _&&_, _||_}
+use mathlib.Core.Bool.{Bool, true, false, cond, _||_}
 use mathlib.Core.List.{List, [], _∷_, _++_, map}
-use Prim.Native.Nat.{ℕ, suc, _+_, _*_, _≤_, _<_}
+use Prim.Native.Nat.{ℕ, _+_, _*_, _≤_}
 use native.Mathlib.Omega.{arith}
 use lib.Dec.{leb}
 use lib.ListN.{length, length-append}
 use Rattle.std.specs.shelf.Lists.{All}
 use Rattle.std.specs.shelf.Text.{sameBytes}
 use Rattle.std.specs.declared.option.Option.the-variants.{Some, None}
-use Rattle.std.proofs.shelf.Tests.{and-parts, and-from, or-parts, not-true, not-from-false, leb-true, le-leb}
+use Rattle.std.proofs.shelf.Tests.{and-parts, and-from, or-parts, not-true, not-from-false, le-leb}
 use Rattle.train.specs.declared.entries.Vehicle.{Vehicle}
 use Rattle.train.specs.declared.refusal.Part.the-variants.{Text}
 use Rattle.train.specs.declared.refusal.Reason.the-variants.{ConsistCount, VehicleCount, IdentityOrder, Repeated}
 use Rattle.train.specs.Octets.{below, zeros}
 use Rattle.train.specs.Refusals.{Check, orElse, must, each, alone, keeps, fresh, by, among, refusal}
-use Rattle.train.proofs.Bytes.{nowhere, below-trans}
+use Rattle.train.proofs.Bytes.{below-trans}
 use Rattle.fleet.specs.Fleets.{IsVehicle, Apart}
 use Rattle.fleet.specs.Books.{Item, IsItem, IsFleet, Rising, vehiclesIn, bookOf, flat, itemRow, vehicleRow, two, four}
 use Rattle.fleet.proofs.Halves.{differ, differs}

@@ -1,23 +1,21 @@
 -- The automaton against the grammar.
 use mathlib.Core.Path.{_≡_, refl, sym, ap, subst, _∙_}
 use mathlib.Core.Bool.{Bool, true, false, cond}
-use mathlib.Core.Logic.{_⊎_, inl, inr, ⊎-elim}
+use mathlib.Core.Logic.{_⊎_, inl, inr}
 use mathlib.Core.List.{List, [], _∷_, _++_, append-assoc, append-nil}
 use Prim.Native.Nat.{ℕ, suc, _+_, _≤_, _<_}
 use native.Mathlib.Omega.{arith}
 use lib.Dec.{eqb, ltb, leb}
-use lib.ListN.{length, getD, take, drop, length-append}
-use borrow.Author.Tests.{ne-eqb, eqb-true, eqb-false, ltb-true, ltb-false, leb-true, lt-ltb, le-leb, eq-eqb}
+use lib.ListN.{length, take, length-append}
+use borrow.Author.Tests.{eqb-true, ltb-true, ltb-false, leb-true, lt-ltb, le-leb}
 use Rattle.fleet_list.specs.declared.name_reader.NameState.{NameState}
 use Rattle.fleet_list.specs.declared.name_reader.NameState.the-variants.{Before, Inside, Escaped, Ended}
 use Rattle.fleet_list.specs.Steps.{Move, refuse, enter, escape, keep, close, move, Room}
-use Rattle.fleet_list.proofs.Turns.{Out, ok, bad, run}
+use Rattle.fleet_list.proofs.Turns.{ok, bad, run, went, is-went}
 use Rattle.fleet_list.specs.Texts.{escaped, quoted as print}
 use Rattle.std.specs.Joined.{joined}
 use Rattle.std.specs.shelf.Lists.{All}
-use Rattle.fleet_list.specs.Forms.{Viable, Breaks}
-use Rattle.fleet_list.specs.Forms.{Front}
-use Rattle.fleet_list.proofs.Turns.{went, is-went}
+use Rattle.fleet_list.specs.Forms.{Breaks, Front}
 
 -- the text of a name: 1 to 15 printable bytes
 abbrev pub Plain : List ℕ → Type 0

@@ -7,7 +7,7 @@ use lib.ListN.{length, take, drop, getD, set, length-drop}
 use lib.Seq.{length-take-le}
 use Rattle.std.proofs.shelf.Lists.{take-more, take-more-set, take-all, take-map, drop-map, take-rest}
 use Rattle.train.specs.declared.entries.Vehicle.{Vehicle}
-use Rattle.fleet.specs.Books.{Item, listed, vehicleOf, countOf, totalOf, entriesOf, tailOf, tableOf}
+use Rattle.fleet.specs.Books.{listed, vehicleOf, countOf, totalOf, entriesOf, tailOf, tableOf}
 use Rattle.fleet.specs.Rows.{rows, sizeOf, sizes}
 use Rattle.fleet.proofs.Entries.{rows-at, length-rows}
 use Rattle.fleet_list.specs.declared.tables.Head.{Head}

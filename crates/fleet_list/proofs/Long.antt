@@ -1,5 +1,5 @@
 -- What opening says of the bytes of a book, and how long the list of its fleet can be.
-use mathlib.Core.Path.{_≡_, refl, sym, ap, subst, _∙_}
+use mathlib.Core.Path.{_≡_, ap}
 use mathlib.Core.Bool.{Bool, true, false, cond}
 use mathlib.Core.List.{List, [], _∷_, _++_}
 use Prim.Native.Nat.{ℕ, _+_, _*_, _/_, _%_, _^_, _≤_, _<_}
@@ -15,7 +15,7 @@ use Rattle.std.proofs.shelf.Tests.{and-parts, leb-true, eqb-true}
 use Rattle.train.specs.declared.entries.Vehicle.{Vehicle}
 use Rattle.train.specs.declared.refusal.Part.the-variants.{Book}
 use Rattle.train.specs.declared.refusal.Reason.the-variants.{BookHead, ConsistCount, VehicleCount}
-use Rattle.train.specs.Names.{IsName, textOf}
+use Rattle.train.specs.Names.{textOf}
 use Rattle.train.specs.Refusals.{must, refusal}
 use Rattle.fleet.specs.Fleets.{IsVehicle}
 use Rattle.fleet.specs.Books.{Item, IsItem, IsFleet, bookChecks, headed, reaching, fitting, countOf, totalOf, consistRows, vehicleRows}
@@ -23,7 +23,7 @@ use Rattle.fleet.proofs.Heads.{first-met}
 use Rattle.fleet.proofs.Whole.{passed}
 use Rattle.fleet_list.specs.Entries.{IsLong}
 use Rattle.fleet_list.specs.Lists.{lineText, listText}
-use Rattle.fleet_list.specs.Texts.{byteText, escaped, quoted, vehicleText}
+use Rattle.fleet_list.specs.Texts.{byteText, escaped, vehicleText}
 use Rattle.fleet_list.proofs.Pads.{text-is}
 use Rattle.fleet_list.proofs.Sizes.{twice, quoted-long, vehicle-long}
 

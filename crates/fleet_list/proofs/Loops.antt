@@ -1,13 +1,13 @@
 -- Texts of elements written one behind another: p is written before them, and s bytes follow them.
-use mathlib.Core.Path.{_≡_, refl, sym, ap, subst, _∙_}
-use mathlib.Core.List.{List, [], _∷_, _++_, append-assoc, append-nil}
-use Prim.Native.Nat.{ℕ, zero, suc, _+_, _-_, _≤_, _<_}
+use mathlib.Core.Path.{_≡_, refl, sym, ap, _∙_}
+use mathlib.Core.List.{List, [], _∷_, _++_}
+use Prim.Native.Nat.{ℕ, _+_, _-_, _≤_, _<_}
 use native.Mathlib.Omega.{arith}
 use lib.ListN.{length, take, drop, getD, set, length-append, length-drop, length-set}
 use lib.Seq.{drop-set-lt}
 use borrow.Rule.Slice.PartMut.{putMid}
 use Rattle.std.specs.Joined.{joined}
-use Rattle.std.proofs.shelf.Lists.{take-more, take-all, joined-more, at-drop-more, drop-all, take-rest}
+use Rattle.std.proofs.shelf.Lists.{take-more, take-all, joined-more, at-drop-more, take-rest}
 use Rattle.fleet_list.specs.Writes.{Written}
 use Rattle.fleet_list.proofs.Behind.{lend, same-text, same-length}
 

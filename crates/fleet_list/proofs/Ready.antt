@@ -1,6 +1,6 @@
 -- Lines that are not too many stand in the tables, and what becomes of them there is what import answers.
-use mathlib.Core.Path.{_≡_, refl, sym, ap, ap₂, subst, _∙_}
-use mathlib.Core.Logic.{_⊎_, inl, inr}
+use mathlib.Core.Path.{_≡_, sym, ap, ap₂, subst, _∙_}
+use mathlib.Core.Logic.{inr}
 use mathlib.Core.List.{List}
 use Prim.Native.Nat.{ℕ, _≤_}
 use native.Mathlib.Omega.{arith}
@@ -10,7 +10,6 @@ use Rattle.std.specs.declared.result.Result.{Result}
 use Rattle.std.specs.declared.result.Result.the-variants.{Ok, Err}
 use Rattle.train.specs.declared.entries.Vehicle.{Vehicle}
 use Rattle.train.specs.declared.refusal.Refusal.{Refusal}
-use Rattle.fleet.specs.Books.{Item}
 use Rattle.fleet_list.specs.declared.tables.Head.{Head}
 use Rattle.fleet_list.specs.Imports.{Stored, Imported}
 use Rattle.fleet_list.specs.Readings.{Listed}

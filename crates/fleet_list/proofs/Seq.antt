@@ -8,8 +8,7 @@ use native.Mathlib.Omega.{arith}
 use lib.ListN.{length, take, drop, getD, length-drop, length-append, take-append-drop}
 use Rattle.std.proofs.shelf.Lists.{at-drop-more, drop-all}
 use Rattle.train.specs.declared.refusal.Refusal.{Refusal}
-use Rattle.fleet_list.specs.Forms.{Viable, Breaks, fault}
-use Rattle.fleet_list.specs.Forms.{Front, Both, joint, Reads, Refused}
+use Rattle.fleet_list.specs.Forms.{Breaks, fault, Front, Both, joint, Reads, Refused}
 
 -- of two fronts of one text, one begins with the other
 fronts : (a b c d : List ℕ) → a ++ b ≡ c ++ d → ((m : List ℕ) × (a ≡ c ++ m)) ⊎ ((m : List ℕ) × (c ≡ a ++ m))

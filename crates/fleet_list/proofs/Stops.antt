@@ -6,7 +6,7 @@ use native.Mathlib.Omega.{arith}
 use lib.ListN.{length, take, drop, getD}
 use Rattle.std.proofs.shelf.Lists.{at-drop-more, drop-all}
 use Rattle.fleet_list.specs.Machine.{Turn, refuse, next, done}
-use Rattle.fleet_list.specs.Forms.{Viable, Breaks}
+use Rattle.fleet_list.specs.Forms.{Breaks}
 
 pub data Got (V : Type 0) : Type 0 where
   got : V → ℕ → List ℕ → Got V

@@ -1,7 +1,6 @@
 -- The exits of `store` and of import, by the checks.
-use mathlib.Core.Path.{_≡_, refl, sym, ap, subst, _∙_}
-use mathlib.Core.Bool.{Bool, true, false, cond}
-use mathlib.Core.List.{List, [], _∷_, _++_, map}
+use mathlib.Core.Path.{_≡_, refl, sym, ap, _∙_}
+use mathlib.Core.List.{List, [], _∷_, map}
 use Prim.Native.Nat.{ℕ, _+_, _*_, _≤_, _<_}
 use native.Mathlib.Omega.{arith}
 use lib.Dec.{leb}
@@ -14,10 +13,9 @@ use Rattle.train.specs.declared.entries.Vehicle.{Vehicle}
 use Rattle.train.specs.declared.refusal.Part.{Part}
 use Rattle.train.specs.declared.refusal.Part.the-variants.{Text}
 use Rattle.train.specs.declared.refusal.Place.the-variants.{At}
-use Rattle.train.specs.declared.refusal.Reason.{Reason}
 use Rattle.train.specs.declared.refusal.Reason.the-variants.{ConsistCount, VehicleCount, IdentityOrder, Repeated, BufferShort}
 use Rattle.train.specs.declared.refusal.Refusal.{Refusal}
-use Rattle.train.specs.Refusals.{Check, must, each, alone, breach, refusal}
+use Rattle.train.specs.Refusals.{must, each, alone, breach, refusal}
 use Rattle.fleet.specs.Books.{Item, bookOf, vehiclesIn}
 use Rattle.fleet_list.specs.declared.tables.Head.{Head}
 use Rattle.fleet_list.specs.Entries.{headIdentity}

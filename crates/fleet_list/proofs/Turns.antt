@@ -3,7 +3,7 @@ use mathlib.Core.Path.{_≡_, refl, sym, ap, subst, _∙_}
 use mathlib.Core.List.{List, [], _∷_, _++_}
 use Prim.Native.Nat.{ℕ, _+_, _-_, _≤_, _<_}
 use native.Mathlib.Omega.{arith}
-use lib.ListN.{length, getD, take, drop, set, replicate, length-set}
+use lib.ListN.{length, getD, drop, replicate, length-set, set}
 use lib.Seq.{length-take-le, drop-drop, drop-set-lt}
 use Rattle.std.proofs.shelf.Lists.{take-more-set, at-drop-more, drop-all, drop-replicate}
 use Rattle.std.specs.declared.result.Result.{Result}
@@ -54,14 +54,19 @@ abbrev pub Turned : List ℕ → Out → ℕ → ℕ → NameReader → Result (
 Turned text o at line t (Err f) = (o ≡ bad at) × (f ≡ fault line (at + 1))
 Turned text o at line t (Ok x) = Onward (t .state) o (nameOf t) (at + 1) (drop (at + 1) text) × Filled t
 
+-- zeros behind one byte more
+zeros-on : (xs : List ℕ) (n b : ℕ) → n < 16 → drop n xs ≡ replicate (16 - n) 0 → drop (n + 1) (set xs n b) ≡ replicate (16 - (n + 1)) 0
+zeros-on xs n b l e =
+    let k : 16 - n - 1 ≡ 16 - (n + 1) = omega arith in
+    drop-set-lt (n + 1) xs n b (omega arith) ∙ sym (drop-drop 1 n xs) ∙ ap (drop 1) e ∙ drop-replicate 1 (16 - n) 0 ∙ ap (λ n. replicate n 0) k
+
 by-move : (text : List ℕ) (at : ℕ) (line : ℕ) (b : ℕ) (s t : NameReader) (r : Result (Unit {0}) Refusal) (m : Move) → s .len < 16 → Filled s → Moved m s b line (at + 1) t r → Turned text (went m (nameOf s) at b (drop (at + 1) text)) at line t r
 by-move text at line b s t r refuse h e v = rw (v .1) (refl, refl)
 by-move text at line b s t r enter h e v = rw (v .1, v .0) (refl, e)
 by-move text at line b s t r escape h e v = rw (v .1, v .0) (refl, e)
 by-move text at line b s t r keep h e v =
     let l : s .len < length (s .name) = omega (arith, e .0) in
-    let k : 16 - s .len - 1 ≡ 16 - (s .len + 1) = omega arith in
-    rw (v .1, v .0) (ap (λ n. run Inside n (at + 1) (drop (at + 1) text)) (sym (take-more-set (s .name) (s .len) b l)), (length-set (s .name) (s .len) b ∙ e .0, drop-set-lt (s .len + 1) (s .name) (s .len) b (omega arith) ∙ sym (drop-drop 1 (s .len) (s .name)) ∙ ap (drop 1) (e .1) ∙ drop-replicate 1 (16 - s .len) 0 ∙ ap (λ n. replicate n 0) k))
+    rw (v .1, v .0) (ap (λ n. run Inside n (at + 1) (drop (at + 1) text)) (sym (take-more-set (s .name) (s .len) b l)), (length-set (s .name) (s .len) b ∙ e .0, zeros-on (s .name) (s .len) b h (e .1)))
 by-move text at line b s t r close h e v = rw (v .1, v .0) (refl, e)
 
 pub room-16 : (q : NameState) (n : ℕ) → Rattle.fleet_list.specs.Steps.Room q n → n < 16

@@ -1,6 +1,6 @@
 -- Lists and books are one to one, and a text breaks at one place; two known texts.
 use mathlib.Core.Path.{_≡_}
-use mathlib.Core.List.{List, [], _∷_, _++_}
+use mathlib.Core.List.{List, [], _∷_}
 use Prim.Native.Nat.{ℕ}
 use Rattle.std.specs.shelf.Lists.{All}
 use Rattle.train.specs.declared.refusal.Refusal.{Refusal}

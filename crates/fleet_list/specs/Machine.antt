@@ -1,6 +1,4 @@
 -- A reader byte by byte, over any standing S and value V.
-use mathlib.Core.List.{List, [], _∷_}
-use Prim.Native.Nat.{ℕ, _+_}
 
 -- what a byte does: nothing goes on so; the reader stands elsewhere; the value is read
 pub data Turn (S V : Type 0) : Type 0 where

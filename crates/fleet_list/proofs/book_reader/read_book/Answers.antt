@@ -1,4 +1,4 @@
-use mathlib.Core.Path.{_≡_, refl}
+use mathlib.Core.Path.{refl}
 use native.Mathlib.Omega.{arith}
 use Rattle.fleet.specs.Books.{countOf}
 use Rattle.fleet_list.proofs.Loads.{loaded, entriesAt, tableAt, totalAt, entries-are, table-is, total-is, entries-long, table-long}

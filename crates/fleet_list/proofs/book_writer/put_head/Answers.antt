@@ -1,8 +1,7 @@
-use mathlib.Core.Path.{_≡_, refl, sym, ap, _∙_}
-use mathlib.Core.List.{List, [], _∷_, _++_, append-assoc}
+use mathlib.Core.Path.{refl, ap, _∙_}
+use mathlib.Core.List.{[], _∷_, _++_, append-assoc}
 use native.Mathlib.Omega.{arith}
 use lib.ListN.{length}
-use Rattle.fleet.specs.Books.{four}
 use Rattle.fleet_list.proofs.Behind.{lend, then-byte, same-text, same-length}
 use Rattle.fleet_list.proofs.Loops.{tail-room}
 use Rattle.fleet_list.proofs.BookRows.{four-is, head-long}

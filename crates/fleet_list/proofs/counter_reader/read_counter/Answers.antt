@@ -1,14 +1,13 @@
-use mathlib.Core.Path.{_≡_, refl, sym, ap, _∙_}
+use mathlib.Core.Path.{_≡_, _∙_}
 use mathlib.Core.List.{List}
 use native.Mathlib.Omega.{arith}
 use Prim.Native.Nat.{ℕ, _+_}
 use lib.ListN.{drop}
 use Rattle.train.specs.declared.refusal.Refusal.{Refusal}
 use Rattle.fleet_list.specs.Machine.{refuse, next, done}
-use Rattle.fleet_list.proofs.Stops.{bad, run}
+use Rattle.fleet_list.proofs.Stops.{bad, run, step-is, short-is}
 use Rattle.fleet_list.specs.Counters.{digit, Counter, counterText}
 use Rattle.fleet_list.specs.Forms.{Refused, fault}
-use Rattle.fleet_list.proofs.Stops.{step-is, short-is}
 use Rattle.fleet_list.proofs.Digits.{accepted-printed, refused-breaks}
 use Rattle.fleet_list.proofs.Seq.{reads, at-place}
 use Rattle.fleet_list.proofs.counter_reader.read_counter.Needs as need

@@ -4,7 +4,7 @@ use Rattle.fleet_list.specs.Forms.{Both, joint}
 use Rattle.fleet_list.specs.Parts.{Nibble, digitText, Byte}
 use Rattle.fleet_list.specs.Texts.{byteText}
 use Rattle.fleet_list.proofs.Hex.{front-digit, digits-byte, byte-digits}
-use Rattle.fleet_list.proofs.Seq.{reads-both, refused-first, refused-second, refused-same}
+use Rattle.fleet_list.proofs.Seq.{refused-first, refused-second, refused-same}
 use Rattle.fleet_list.proofs.identity_reader.read_byte.Needs as need
 
 pub returns-in-Break-high : need.returns-in-Break-high

@@ -1,10 +1,7 @@
-use mathlib.Core.Path.{_≡_, refl, sym}
+use mathlib.Core.Path.{refl, sym}
 use native.Mathlib.Omega.{arith}
-use lib.Dec.{lit<}
-use lib.ListN.{getD}
-use Rattle.fleet_list.specs.Parts.{Nibble, digitText}
+use Rattle.fleet_list.specs.Parts.{Nibble, digitText, IsHex}
 use Rattle.fleet_list.specs.Texts.{hex}
-use Rattle.fleet_list.specs.Parts.{IsHex}
 use Rattle.fleet_list.proofs.Hex.{first-digit}
 use Rattle.fleet_list.proofs.Seq.{nothing-there, wrong-there, reads-byte, refused-here}
 use Rattle.fleet_list.proofs.identity_reader.read_digit.Needs as need

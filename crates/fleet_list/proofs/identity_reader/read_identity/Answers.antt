@@ -1,9 +1,8 @@
 use mathlib.Core.Path.{_≡_, refl}
-use mathlib.Core.List.{[], _∷_}
+use mathlib.Core.List.{[]}
 use Prim.Native.Nat.{_+_, _-_, suc}
 use native.Mathlib.Omega.{arith}
 use Rattle.std.proofs.shelf.Results.{err-from-errBy}
-use Rattle.fleet_list.specs.Forms.{Refused}
 use Rattle.fleet_list.specs.Parts.{Byte, Bytes, bytesText}
 use Rattle.fleet_list.specs.Texts.{byteText}
 use Rattle.fleet_list.proofs.Hex.{in-byte, going-more, going-refused, going-done, first-end}

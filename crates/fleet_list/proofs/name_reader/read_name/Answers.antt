@@ -1,17 +1,17 @@
 use native.Mathlib.Omega.{arith}
-use mathlib.Core.Path.{_≡_, refl, sym, ap, subst, _∙_}
+use mathlib.Core.Path.{_≡_, refl}
 use mathlib.Core.List.{List, []}
-use Prim.Native.Nat.{ℕ, _+_, _≤_}
-use lib.ListN.{length, drop}
+use Prim.Native.Nat.{ℕ, _+_}
+use lib.ListN.{drop}
 use Rattle.std.proofs.shelf.Results.{err-from-errBy}
 use Rattle.train.specs.declared.refusal.Refusal.{Refusal}
 use Rattle.train.specs.Names.{IsName}
 use Rattle.fleet_list.specs.Steps.{nameOf}
 use Rattle.fleet_list.specs.Texts.{quoted}
-use Rattle.fleet_list.specs.Forms.{Reads, Refused, fault}
+use Rattle.fleet_list.specs.Forms.{Refused, fault}
 use Rattle.fleet_list.specs.Parts.{nameText}
 use Rattle.fleet_list.specs.declared.name_reader.NameState.the-variants.{Before}
-use Rattle.fleet_list.proofs.Turns.{Out, ok, bad, run, room-16, Turned, turn, at-err, at-end, at-next, at-short}
+use Rattle.fleet_list.proofs.Turns.{bad, run, room-16, Turned, turn, at-err, at-end, at-next, at-short}
 use Rattle.fleet_list.proofs.Link.{accepted-printed, refused-breaks}
 use Rattle.fleet_list.proofs.Pads.{name-refused, name-read}
 use Rattle.fleet_list.proofs.Seq.{reads, at-place}

@@ -1,4 +1,4 @@
-use mathlib.Core.Path.{_≡_, sym}
+use mathlib.Core.Path.{sym}
 use native.Mathlib.Omega.{arith}
 use Rattle.fleet_list.proofs.Sizes.{long-one, long-more}
 use Rattle.fleet_list.proofs.text_size.+decimal_size.Needs as need

@@ -1,11 +1,11 @@
-use mathlib.Core.Path.{_≡_, refl, sym, ap, _∙_}
-use mathlib.Core.List.{List, [], _∷_, _++_}
+use mathlib.Core.Path.{_≡_, sym, ap, _∙_}
+use mathlib.Core.List.{[], _∷_}
 use Prim.Native.Nat.{ℕ, _+_, _/_, _%_, _^_, _≤_, _<_}
 use native.Mathlib.Omega.{arith}
 use lib.ListN.{length, length-append}
 use Rattle.std.specs.Written.{decimal}
 use Rattle.std.proofs.shelf.Decimals.{decimal-digit, decimal-step}
-use Rattle.fleet_list.proofs.Behind.{then-byte, written-none, same-text, same-length}
+use Rattle.fleet_list.proofs.Behind.{then-byte, written-none, same-text}
 use Rattle.fleet_list.proofs.text_writer.+put_decimal.Needs as need
 
 long-one : (n : ℕ) → n < 10 → length (decimal n) ≡ 1

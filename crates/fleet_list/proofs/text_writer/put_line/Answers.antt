@@ -1,13 +1,10 @@
-use mathlib.Core.Path.{_≡_, refl, sym, ap, subst, _∙_}
-use mathlib.Core.List.{List, [], _∷_, _++_}
-use Prim.Native.Nat.{ℕ, _+_, _-_, _*_, _≤_, _<_}
+use mathlib.Core.Path.{_≡_, refl}
+use mathlib.Core.List.{List, [], _∷_, _++_, append-assoc}
+use Prim.Native.Nat.{ℕ, _+_, _-_}
 use native.Mathlib.Omega.{arith}
-use mathlib.Core.List.{append-assoc}
-use lib.ListN.{length, length-append}
+use lib.ListN.{length-append}
 use Rattle.std.specs.Joined.{joined}
 use Rattle.std.specs.Written.{decimal}
-use Rattle.fleet_list.specs.Parts.{bytesText}
-use Rattle.fleet_list.specs.Tables.{rowText}
 use Rattle.fleet_list.specs.Texts.{byteText, vehicleText}
 use Rattle.fleet_list.proofs.Behind.{lend, then-byte, same-text, same-length}
 use Rattle.fleet_list.proofs.Loops.{tail-room}

@@ -1,12 +1,11 @@
-use mathlib.Core.Path.{_≡_, refl, sym, ap, subst, _∙_}
-use mathlib.Core.List.{List, [], _∷_, _++_}
-use Prim.Native.Nat.{ℕ, _+_, _-_, _*_, _≤_, _<_}
+use mathlib.Core.Path.{refl, ap}
+use mathlib.Core.List.{[]}
+use Prim.Native.Nat.{_-_}
 use native.Mathlib.Omega.{arith}
-use lib.ListN.{length, take, drop, getD}
+use lib.ListN.{length}
 use Rattle.fleet_list.specs.Lists.{lineText}
 use Rattle.fleet_list.specs.Tables.{gathered, itemOf}
-use Rattle.fleet_list.specs.Writes.{Written}
-use Rattle.fleet_list.proofs.Behind.{written-none, same-text, same-length, lent-fits}
+use Rattle.fleet_list.proofs.Behind.{written-none, same-text}
 use Rattle.fleet_list.proofs.Gathers.{walk-none, walk-fits, walk-more, length-gathered, noHead}
 use Rattle.fleet_list.proofs.Loops.{writing-more, writing-room, writing-all, tail-room}
 use Rattle.fleet_list.proofs.Sizes.{line-here}

@@ -1,9 +1,7 @@
-use mathlib.Core.Path.{_≡_, refl}
-use mathlib.Core.List.{[], _∷_}
-use Prim.Native.Nat.{_+_, _-_, suc}
+use mathlib.Core.List.{[]}
+use Prim.Native.Nat.{_-_, suc}
 use native.Mathlib.Omega.{arith}
 use Rattle.std.proofs.shelf.Results.{err-from-errBy}
-use Rattle.fleet_list.specs.Forms.{Refused}
 use Rattle.fleet_list.specs.Parts.{Few, others}
 use Rattle.fleet_list.proofs.Cars.{Next, going-more, going-refused, going-done, spaced-refused, first-other, wrong-next}
 use Rattle.fleet_list.proofs.Seq.{nothing-there, refused-here}
