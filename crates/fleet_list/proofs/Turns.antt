@@ -58,7 +58,12 @@ Turned text o at line t (Ok x) = Onward (t .state) o (nameOf t) (at + 1) (drop (
 zeros-on : (xs : List ℕ) (n b : ℕ) → n < 16 → drop n xs ≡ replicate (16 - n) 0 → drop (n + 1) (set xs n b) ≡ replicate (16 - (n + 1)) 0
 zeros-on xs n b l e =
     let k : 16 - n - 1 ≡ 16 - (n + 1) = omega arith in
-    drop-set-lt (n + 1) xs n b (omega arith) ∙ sym (drop-drop 1 n xs) ∙ ap (drop 1) e ∙ drop-replicate 1 (16 - n) 0 ∙ ap (λ n. replicate n 0) k
+    let a : drop (n + 1) (set xs n b) ≡ drop (n + 1) xs = drop-set-lt (n + 1) xs n b (omega arith) in
+    let c : drop 1 (drop n xs) ≡ drop (n + 1) xs = drop-drop 1 n xs in
+    let d : drop 1 (drop n xs) ≡ drop 1 (replicate {A = ℕ} (16 - n) 0) = ap (drop 1) e in
+    let f : drop 1 (replicate {A = ℕ} (16 - n) 0) ≡ replicate (16 - n - 1) 0 = drop-replicate 1 (16 - n) 0 in
+    let g : replicate {A = ℕ} (16 - n - 1) 0 ≡ replicate (16 - (n + 1)) 0 = ap (λ (i : ℕ). replicate i 0) k in
+    a ∙ (sym c ∙ (d ∙ (f ∙ g)))
 
 by-move : (text : List ℕ) (at : ℕ) (line : ℕ) (b : ℕ) (s t : NameReader) (r : Result (Unit {0}) Refusal) (m : Move) → s .len < 16 → Filled s → Moved m s b line (at + 1) t r → Turned text (went m (nameOf s) at b (drop (at + 1) text)) at line t r
 by-move text at line b s t r refuse h e v = rw (v .1) (refl, refl)

@@ -25,7 +25,7 @@ fn store(heads: &[Head], vehicles: &[Vehicle], out: &mut [u8]) -> Result<usize, 
 {
     identities_rise(heads)?;
     names_apart(heads, vehicles)?;
-    let need = 6 + 21 * heads.len() + 17 * vehicles.len();
+    let need = FRAME + CONSIST * heads.len() + VEHICLE * vehicles.len();
     if out.len() < need {
         return Err(refuse(Reason::BufferShort, need));
     }

@@ -15,6 +15,13 @@ pub const HEADS: usize = 201;
 
 pub const ROOM: usize = 2032;
 
+// How long the entries of a book are, and all that stands beside them.
+pub const CONSIST: usize = 21;
+
+pub const VEHICLE: usize = 17;
+
+pub const FRAME: usize = 6;
+
 // A consist without its vehicles, and how many it has.
 #[derive(Clone, Copy)]
 pub struct Head {
