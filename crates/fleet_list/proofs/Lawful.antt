@@ -22,7 +22,7 @@ use Rattle.fleet.proofs.Halves.{differ, differs}
 use Rattle.fleet.proofs.Heads.{first-met, none-first}
 use Rattle.fleet.proofs.Writings.{name-long}
 use Rattle.fleet_list.specs.Lists.{IsLine}
-use Rattle.fleet_list.specs.Imports.{identityIn, vehiclesOf, lastOf, rising, namesApart, roomFor, entryChecks, listChecks}
+use Rattle.fleet_list.specs.Imports.{identityIn, vehiclesOf, lastOf, rising, namesApart, roomFor, lineChecks, listChecks}
 use Rattle.fleet_list.proofs.BookRows.{row-long}
 use Rattle.fleet_list.proofs.Checked.{last-push}
 
@@ -128,7 +128,7 @@ item i l h = record {
   consist = record { counted = l .counted; fits = l .fits; some = l .some; few = l .few; each = l .each; apart = apart-by [] (vehiclesOf i) (h .1) .1 };
 }
 
-pub lawful : (is : List Item) (room : ℕ) → All IsLine is → length is ≤ 200 → length (vehiclesIn is) ≤ 2000 → refusal Text (entryChecks is room) ≡ None → IsFleet is
+pub lawful : (is : List Item) (room : ℕ) → All IsLine is → length is ≤ 200 → length (vehiclesIn is) ≤ 2000 → refusal Text (lineChecks is room) ≡ None → IsFleet is
 lawful is room l few small h =
     let a = first-met Text (each rising IdentityOrder (map identityIn is)) _ h in
     let b = first-met Text (each (alone namesApart) Repeated (map vehiclesOf is)) _ (a .1) in

@@ -48,8 +48,8 @@ abbrev pub roomFor : ℕ → ℕ → Check
 roomFor need room = record { ok = leb need room; reason = BufferShort; place = At need }
 
 -- what import checks of lines that are not too many
-abbrev pub entryChecks : List Item → ℕ → List Check
-entryChecks is room =
+abbrev pub lineChecks : List Item → ℕ → List Check
+lineChecks is room =
     each rising IdentityOrder (map identityIn is)
     ∷ each (alone namesApart) Repeated (map vehiclesOf is)
     ∷ roomFor (length (bookOf is)) room
@@ -60,7 +60,7 @@ abbrev pub listChecks : List Item → ℕ → List Check
 listChecks is room =
     must (leb (length is) 200) ConsistCount
     ∷ must (leb (length (vehiclesIn is)) 2000) VehicleCount
-    ∷ entryChecks is room
+    ∷ lineChecks is room
 
 -- the text is the list of a fleet, whose book is written at the front of the buffer
 pub record Carried (t before : List ℕ) (n : ℕ) (after : List ℕ) : Type 0 where
@@ -83,8 +83,8 @@ Imported t before after (Err f) = (after ≡ before) × (Broken t f ⊎ Unmet t 
 
 -- what becomes of consists in the tables
 abbrev pub Stored : List Item → List ℕ → List ℕ → Result ℕ Refusal → Type 0
-Stored is before after (Ok n) = (refusal Text (entryChecks is (length before)) ≡ None) × Written (bookOf is) before n after
-Stored is before after (Err f) = (refusal Text (entryChecks is (length before)) ≡ Some f) × (after ≡ before)
+Stored is before after (Ok n) = (refusal Text (lineChecks is (length before)) ≡ None) × Written (bookOf is) before n after
+Stored is before after (Err f) = (refusal Text (lineChecks is (length before)) ≡ Some f) × (after ≡ before)
 
 -- Every text breaks at one place, or is the list of some lines; what it is decides the answer.
 pub record Decided (t before : List ℕ) (r : Result ℕ Refusal) : Type 0 where

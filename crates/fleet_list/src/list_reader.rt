@@ -1,8 +1,7 @@
 // The reader of a list: its lines into tables.
-ghost use Prim.Native.Nat.{_≤_, _<_};
-ghost use lib.ListN.{length};
 ghost use mathlib.Core.Path.{_≡_};
-ghost use Prim.Native.Nat.{min};
+ghost use Prim.Native.Nat.{min, _≤_, _<_};
+ghost use lib.ListN.{length};
 ghost use Rattle.fleet_list.specs.Readings.{ListAnswer};
 use crate::line_reader::read_line;
 use crate::tables::*;
