@@ -22,6 +22,9 @@ use Rattle.fleet.specs.Rows.{identityOf, rises, lastIdentity, ascending}
 use Rattle.fleet.specs.Seeks.{find, isAt, placeOf}
 use Rattle.fleet.proofs.Entries.{last-added}
 
+pub same-self : (a : List ℕ) → sameBytes a a ≡ true
+same-self a = sameBytes-decides a a .1 refl
+
 -- byte strings that differ are told apart, and the other way round
 pub differ : (a b : List ℕ) → (a ≡ b → ⊥) → sameBytes a b ≡ false
 differ a b n = elim (cases-bool (sameBytes a b)) [ inl e ↦ absurd (n (sameBytes-decides a b .0 e)) | inr e ↦ e ]

@@ -9,3 +9,8 @@ pub mod Readings
 pub mod Writings
 pub mod Means
 pub mod Whole
+pub mod Turns
+pub mod Changes
+pub mod Sound
+pub mod Crowds
+pub mod Answered

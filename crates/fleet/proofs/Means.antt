@@ -27,7 +27,7 @@ use Rattle.fleet.specs.Seeks.{find, isAt, placeOf}
 use Rattle.fleet.specs.Books.{countOf, entriesOf, tailOf, totalOf, tableOf, Item, meaningOf, vehicleOf, itemOf, listed, fleetOf, vehiclesIn, nameIn, nameAt, IsItem, Rising}
 use Rattle.fleet.proofs.Heads.{never}
 use Rattle.fleet.proofs.Entries.{rows-at, take-take}
-use Rattle.fleet.proofs.Halves.{below-apart, above-apart}
+use Rattle.fleet.proofs.Halves.{same-self, above-apart}
 use Rattle.fleet.proofs.Readings.{none-left}
 
 -- the fleet of the bytes, by their parts
@@ -172,9 +172,6 @@ name-lent bs table count total i offset r nm t c h o q e =
     ∙ ap (take 16) (drop-drop m 2 (tailOf bs) ∙ drop-drop (2 + m) d (drop 4 bs) ∙ drop-drop (d + (2 + m)) 4 bs ∙ ap (λ (n : ℕ). drop n bs) z)
 
 -- two fleets in rising order with one meaning are one fleet
-same-self : (a : List ℕ) → sameBytes a a ≡ true
-same-self a = sameBytes-decides a a .1 refl
-
 absent : (id : Identity) (is : List Item) → All (λ i. below (id .bytes) (i .identity .bytes) ≡ true) is → meaningOf is id ≡ None
 absent id [] h = refl
 absent id (i ∷ is) h = let e = above-apart (id .bytes) (i .identity .bytes) (h .0) in rw e (absent id is (h .1))

@@ -88,7 +88,7 @@ lines-back : (rs : List (List ℕ)) → All GoodLine rs → map vehicleRow (map 
 lines-back [] h = refl
 lines-back (r ∷ rs) h = ap₂ (λ x y. x ∷ y) (vehicle-back r (h .0)) (lines-back rs (h .1))
 
-counter-some : (n : ℕ) → not (eqb n 0) ≡ true → 1 ≤ n
+pub counter-some : (n : ℕ) → not (eqb n 0) ≡ true → 1 ≤ n
 counter-some n h = grind (arith, tells)
 
 counter-fits : (e : List ℕ) → GoodEntry e → counterOf e ≤ 4294967295
@@ -101,7 +101,7 @@ counter-fits e g =
     let d = y 19 (omega arith) in
     omega arith
 
-size-fits : (n : ℕ) → leb 1 n && leb n 32 ≡ true → (1 ≤ n) × (n ≤ 32)
+pub size-fits : (n : ℕ) → leb 1 n && leb n 32 ≡ true → (1 ≤ n) × (n ≤ 32)
 size-fits n h = (grind (arith, tells), grind (arith, tells))
 
 item-lawful : (e : List ℕ) (ws : List (List ℕ)) → GoodEntry e → All GoodLine ws → length ws ≡ sizeOf e → keeps (fresh (by sameBytes nameOf)) [] ws ≡ true → IsItem (itemOf e ws)

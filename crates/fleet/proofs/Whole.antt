@@ -135,7 +135,7 @@ module _ (es vs : List ℕ) (c v : ℕ) (l : length es ≡ c * 21) (m : length v
       let q = part-total in
       rw (x, y, p, q)
 
-not-some : {A : Type 0} (o : Option A) → isSome o ≡ false → o ≡ None
+pub not-some : {A : Type 0} (o : Option A) → isSome o ≡ false → o ≡ None
 not-some None e = refl
 not-some (Some x) e = let z : _≡_ {A = ℕ} 0 1 = cc in absurd (omega arith)
 

@@ -5,3 +5,6 @@ pub mod Seeks
 pub mod Books
 pub mod Cuts
 pub mod Held
+pub mod Rosters
+pub mod Seats
+pub mod Meant

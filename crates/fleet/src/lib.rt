@@ -3,5 +3,6 @@ pub mod book;
 mod checks;
 mod parts;
 pub mod questions;
+pub mod roster;
 mod rows;
 mod seek;

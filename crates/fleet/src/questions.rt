@@ -8,7 +8,7 @@ use train::entries::Vehicle;
 use train::identity::Identity as Id;
 
 /// What a look-up finds of a consist.
-#[derive(Clone, Copy)]
+#[derive(Clone, Copy, PartialEq, Eq, Debug)]
 pub struct Found {
     pub counter: u32,
     pub count: u8,

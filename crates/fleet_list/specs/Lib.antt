@@ -1,0 +1,16 @@
+pub mod Machine
+pub mod Forms
+pub mod Texts
+pub mod Steps
+pub mod Counters
+pub mod Parts
+pub mod Rooms
+pub mod Lists
+pub mod Tables
+pub mod Readings
+pub mod Writes
+pub mod Imports
+pub mod Entries
+pub mod Exports
+pub mod Trips
+pub mod Laws
