@@ -13,7 +13,7 @@ use Rattle.std.specs.shelf.Lists.{All}
 use Rattle.std.specs.shelf.Text.{sameBytes}
 use Rattle.std.specs.declared.option.Option.{Option}
 use Rattle.std.specs.declared.option.Option.the-variants.{Some, None}
-use Rattle.std.proofs.shelf.Elements.{all-weaker}
+use Rattle.std.proofs.shelf.Elements.{all-weaker, all-map}
 use Rattle.std.proofs.shelf.Equals.{sameBytes-decides}
 use Rattle.std.proofs.shelf.Lists.{length-map}
 use Rattle.std.proofs.shelf.Tests.{and-parts, and-from, and-left, and-right, or-cases, or-left, or-right, not-true, not-false, not-from-true, cases-bool, both-ways}
@@ -27,7 +27,6 @@ use Rattle.fleet.specs.Seats.{used, isFree, isHere, consistIn, meaningIn, apar
 use Rattle.fleet.specs.Seeks.{find}
 use Rattle.fleet.proofs.Heads.{never}
 use Rattle.fleet.proofs.Halves.{same-self, differ, differs}
-use Rattle.fleet.proofs.Kept.{all-mapped, all-unmapped}
 use Rattle.fleet.proofs.Means.{find-ge}
 use Rattle.fleet.proofs.Changes.{id-same, head-zero, head-suc, none-parts, answers, put-own, put-free, clear-means}
 use Rattle.fleet.proofs.Sound.{seat-none}
@@ -162,7 +161,7 @@ all-apart : (ss : List Seat) → All (λ s. isFree s ≡ false) ss → apartSeat
 all-apart [] u a = tt
 all-apart (s ∷ ss) u a =
     let t = and-parts (alone s ss) (apartSeats ss) a in
-    (all-mapped (λ s. s .identity) (Apart (s .identity)) ss (away (s .identity) ss (u .1) (alone-used s ss (ap not (u .0)) (t .0))), all-apart ss (u .1) (t .1))
+    (all-map (Apart (s .identity)) (λ s. s .identity) ss (away (s .identity) ss (u .1) (alone-used s ss (ap not (u .0)) (t .0))), all-apart ss (u .1) (t .1))
 
 crowded : (ss : List Seat) (id : Identity) → length ss ≡ 63 → apartSeats ss ≡ true → find (isHere id) 0 ss ≡ None → find isFree 0 ss ≡ None → Full (meaningIn ss) id
 crowded ss id l a h f =
@@ -171,8 +170,8 @@ crowded ss id l a h f =
       others = map (λ s. s .identity) ss;
       count = length-map ss (λ s. s .identity) ∙ l;
       apart = all-apart ss u a;
-      other = all-mapped (λ s. s .identity) (λ x. x .bytes ≡ id .bytes → ⊥) ss (all-weaker (λ s. Apart id (s .identity)) (λ s. s .identity .bytes ≡ id .bytes → ⊥) (λ s n e. n (sym e)) ss (away id ss u (ap isSome (seat-none id 0 ss h))));
-      present = all-mapped (λ s. s .identity) (λ x. isSome (meaningIn ss x) ≡ true) ss (all-present ss u);
+      other = all-map (λ x. x .bytes ≡ id .bytes → ⊥) (λ s. s .identity) ss (all-weaker (λ s. Apart id (s .identity)) (λ s. s .identity .bytes ≡ id .bytes → ⊥) (λ s n e. n (sym e)) ss (away id ss u (ap isSome (seat-none id 0 ss h))));
+      present = all-map (λ x. isSome (meaningIn ss x) ≡ true) (λ s. s .identity) ss (all-present ss u);
     }
 
 -- and where it has a seat of its own, or one is free, fewer other consists than seats stand

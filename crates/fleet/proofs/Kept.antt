@@ -5,6 +5,7 @@ use mathlib.Core.List.{List, [], _∷_, _++_, map}
 use Prim.Native.Nat.{ℕ}
 use Rattle.std.specs.shelf.Lists.{All}
 use Rattle.std.specs.shelf.Text.{sameBytes}
+use Rattle.std.proofs.shelf.Elements.{all-map}
 use Rattle.std.proofs.shelf.Tests.{and-parts, and-from, or-parts, or-from, not-true}
 use Rattle.train.specs.Refusals.{keeps, alone, fresh, among, by}
 use Rattle.fleet.specs.Fleets.{Pairs}
@@ -74,17 +75,13 @@ module _ {A : Type 0} (label : A → List ℕ) where
   pairs-fresh xs p = away-fresh [] xs (away-none xs) p
 
 module _ {A B : Type 0} (f : B → A) where
-  pub all-mapped : (P : A → Type 0) (ys : List B) → All (λ y. P (f y)) ys → All P (map f ys)
-  all-mapped P [] h = tt
-  all-mapped P (y ∷ ys) h = (h .0, all-mapped P ys (h .1))
-
   pub all-unmapped : (P : A → Type 0) (ys : List B) → All P (map f ys) → All (λ y. P (f y)) ys
   all-unmapped P [] h = tt
   all-unmapped P (y ∷ ys) h = (h .0, all-unmapped P ys (h .1))
 
   pub pairs-mapped : (R : A → A → Type 0) (ys : List B) → Pairs (λ x y. R (f x) (f y)) ys → Pairs R (map f ys)
   pairs-mapped R [] h = tt
-  pairs-mapped R (y ∷ ys) h = (all-mapped (R (f y)) ys (h .0), pairs-mapped R ys (h .1))
+  pairs-mapped R (y ∷ ys) h = (all-map (R (f y)) f ys (h .0), pairs-mapped R ys (h .1))
 
   pub pairs-unmapped : (R : A → A → Type 0) (ys : List B) → Pairs R (map f ys) → Pairs (λ x y. R (f x) (f y)) ys
   pairs-unmapped R [] h = tt

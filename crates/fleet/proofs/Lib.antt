@@ -9,7 +9,7 @@ pub mod Readings
 pub mod Writings
 pub mod Means
 pub mod Whole
-pub mod Turns
+pub mod Finds
 pub mod Changes
 pub mod Sound
 pub mod Crowds

@@ -3,7 +3,7 @@ use mathlib.Core.List.{List}
 use native.Mathlib.Nat.{sub-zero}
 use Rattle.train.specs.declared.entries.Vehicle.{Vehicle}
 use Rattle.fleet.specs.Fleets.{Consist}
-use Rattle.fleet.proofs.Turns.{front-copied}
+use Rattle.fleet.proofs.Finds.{front-copied}
 use Rattle.fleet.proofs.Sound.{copied-whole}
 use Rattle.fleet.proofs.roster.seats.filled.Needs as need
 

@@ -1,6 +1,6 @@
 use mathlib.Core.Path.{sym, _∙_}
 use Rattle.fleet.specs.Seats.{isFree}
-use Rattle.fleet.proofs.Turns.{find-past, find-here, find-none}
+use Rattle.fleet.proofs.Finds.{find-past, find-here, find-none}
 use Rattle.fleet.proofs.roster.seats.free_place.Needs as need
 
 pub returns-then-is-free : need.returns-then-is-free

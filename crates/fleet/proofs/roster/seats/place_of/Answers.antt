@@ -1,6 +1,6 @@
 use mathlib.Core.Path.{sym, _∙_}
 use Rattle.fleet.specs.Seats.{isHere}
-use Rattle.fleet.proofs.Turns.{find-past, find-here, find-none}
+use Rattle.fleet.proofs.Finds.{find-past, find-here, find-none}
 use Rattle.fleet.proofs.roster.seats.place_of.Needs as need
 
 pub returns-then-is-here : need.returns-then-is-here
