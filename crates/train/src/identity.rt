@@ -3,7 +3,7 @@ ghost use mathlib.Core.Path.{_≡_};
 ghost use Rattle.std.specs.declared.option.Option.the-variants.{Some};
 ghost use Rattle.std.specs.shelf.Text.{sameBytes};
 ghost use Rattle.train.specs.Identities.{isIdentity};
-ghost use Rattle.train.specs.Octets.{ranked};
+ghost use Rattle.train.specs.Octets.{ranked, zeros};
 use crate::octets;
 use std::cmp::Ordering;
 
@@ -21,6 +21,13 @@ pub fn well_formed(bytes: &[u8]) -> bool
 }
 
 impl Identity {
+    /// Whether all its bytes are zero.
+    pub fn is_zero(&self) -> bool
+        ensures { λ r. ⌜ r ≡ sameBytes (now (self .entry) .bytes) zeros ⌝ }
+    {
+        octets::is_zero(&self.bytes)
+    }
+
     /// Whether a consist may have it.
     pub fn is_well_formed(&self) -> bool
         ensures { λ r. ⌜ r ≡ isIdentity (now (self .entry) .bytes) ⌝ }
