@@ -4,6 +4,7 @@ ghost use Rattle.std.specs.Options.{Cases as BySome};
 use std::alloc::AllocError;
 use std::alloc::Global;
 use train::entries::Coupled;
+use train::entries::Vehicle;
 use train::facing::Facing;
 use train::identity::Identity;
 use train::name::Name;
@@ -154,4 +155,19 @@ pub fn name(field: &[u8]) -> Option<Name> {
 pub fn identity(field: &[u8]) -> Option<Identity> {
     let bytes = sixteen(field)?;
     Some(Identity { bytes })
+}
+
+/// A decimal number of at most 65535.
+pub fn medium(field: &[u8]) -> Option<u16> {
+    match number(field, 65535) {
+        Some(value) => u16::try_from(value).ok(),
+        None => None,
+    }
+}
+
+/// A name with its facing.
+pub fn vehicle(field: &[u8]) -> Option<Vehicle> {
+    let (front, facing) = faced(field)?;
+    let name = name(front)?;
+    Some(Vehicle { name, facing })
 }

@@ -23,7 +23,7 @@ pub fn push_hex(text: &mut String, bytes: &[u8]) -> Result<(), AllocError> {
     Ok(())
 }
 
-fn sign(facing: Facing) -> &'static str {
+pub fn sign(facing: Facing) -> &'static str {
     match facing {
         Facing::NotKnown => "?",
         Facing::Direct => "+",
