@@ -29,7 +29,7 @@ pub struct NameReader {
 
 impl NameReader {
     // The byte `b` at the place `at` of the line.
-    pub fn step(&mut self, b: u8, line: usize, at: usize) -> Result<(), Refusal>
+    pub(crate) fn step(&mut self, b: u8, line: usize, at: usize) -> Result<(), Refusal>
         requires stands { ⌜ Stands (now self) ⌝ }
         requires small { ⌜ at + 1 < 2 ^ 64 ⌝ }
         ensures stands { λ _. ⌜ Stands (now (self .exit)) ⌝ }
