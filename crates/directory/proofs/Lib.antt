@@ -7,3 +7,17 @@ pub mod Runs
 pub mod Sections
 pub mod Walks
 pub mod Whole
+pub mod Vocabulary
+pub mod Kept
+pub mod Turns
+pub mod Heart
+pub mod RowTells
+pub mod Recover
+pub mod Blocks
+pub mod Asks
+pub mod Oriented
+pub mod Order
+pub mod Leading
+pub mod Confirmed
+pub mod Forth
+pub mod Cut
