@@ -21,3 +21,5 @@ pub mod Leading
 pub mod Confirmed
 pub mod Forth
 pub mod Cut
+pub mod Passes
+pub mod Alikes

@@ -8,3 +8,4 @@ pub mod Part
 pub mod Steps
 pub mod Whole
 pub mod Written
+pub mod Law
