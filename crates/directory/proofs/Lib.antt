@@ -23,3 +23,5 @@ pub mod Forth
 pub mod Cut
 pub mod Passes
 pub mod Alikes
+pub mod Fine
+pub mod Told
