@@ -25,3 +25,4 @@ pub mod Passes
 pub mod Alikes
 pub mod Fine
 pub mod Told
+pub mod Sides
