@@ -1,14 +1,13 @@
 -- A formation turned under one claim composes, or is refused under the same number.
 use mathlib.Core.Path.{_≡_, refl, sym, ap, ap₂, subst, fun-ext, _∙_}
 use mathlib.Core.Bool.{Bool, true, false, cond, not, _&&_, _||_}
-use mathlib.Core.List.{List, [], _∷_, _++_, map, reverse, reverse-cons, map-map}
+use mathlib.Core.List.{List, [], _∷_, _++_, reverse, reverse-cons, map-map}
 use Prim.Native.Nat.{ℕ, _+_, _*_, _≤_}
 use native.Mathlib.Omega.{arith}
 use lib.Dec.{leb}
 use lib.ListN.{length}
 use Rattle.std.specs.shelf.Lists.{All}
 use Rattle.std.proofs.shelf.Tests.{leb-true}
-use Rattle.train.specs.declared.name.Name.{Name}
 use Rattle.train.specs.declared.entries.Coupled.{Coupled}
 use Rattle.train.specs.declared.refusal.Part.the-variants.{Composing}
 use Rattle.train.specs.Identities.{sameName}
@@ -17,7 +16,7 @@ use Rattle.train.specs.Refusals.{Check, refusal, keeps, alone, among}
 use Rattle.train.specs.Turning.{turnedList, turnedCoupled}
 use Rattle.train.proofs.Equal.{sameName-sym}
 use Rattle.fleet.specs.Fleets.{Meaning}
-use Rattle.bench.specs.Facts.{Facts, some}
+use Rattle.bench.specs.Facts.{Facts}
 use Rattle.directory.specs.declared.cars.Car.{Car}
 use Rattle.directory.specs.Cars.{train, turnedCar}
 use Rattle.directory.specs.Operation.{Lead, leads, fromHead, names, ordered, operational}
@@ -104,7 +103,8 @@ module _ (f : Facts) (m : Meaning) (room : ℕ) (known : All (λ e. Known (e .fa
   same-size : length (leads (f .claims) (f .formation)) ≤ 1 → size (turnFacts f) m ≡ size f m
   same-size h = ap₂ (λ (n : ℕ) cs. 19 + 24 * n + 20 * length (firsts nobody cs) + 24 * length cs) (length-turned turnedCoupled (f .formation)) (same-operational h)
 
-  each-alike : (test : Coupled → Bool) → ((e : Coupled) → test (turnedCoupled e) ≡ test e) → keeps (alone test) [] (turnedList turnedCoupled (f .formation)) ≡ keeps (alone test) [] (f .formation)
+  each-alike : (test : Coupled → Bool) → ((e : Coupled) → test (turnedCoupled e) ≡ test e)
+      → keeps (alone test) [] (turnedList turnedCoupled (f .formation)) ≡ keeps (alone test) [] (f .formation)
   each-alike test h =
       keeps-alone test [] (turnedList turnedCoupled (f .formation))
       ∙ every-turned turnedCoupled test (f .formation)

@@ -1,5 +1,5 @@
 -- A composition asks a fleet only for the consists of the formation.
-use mathlib.Core.Path.{_≡_, refl, sym, ap, ap₂, fun-ext, _∙_}
+use mathlib.Core.Path.{_≡_, refl, ap, ap₂, fun-ext}
 use mathlib.Core.Bool.{Bool, cond, _&&_}
 use mathlib.Core.List.{List, [], _∷_, _++_}
 use Prim.Native.Nat.{ℕ, _+_}
@@ -11,9 +11,8 @@ use Rattle.std.proofs.shelf.Elements.{all-weaker}
 use Rattle.std.specs.declared.option.Option.{Option}
 use Rattle.train.specs.declared.identity.Identity.{Identity}
 use Rattle.train.specs.declared.entries.Coupled.{Coupled}
-use Rattle.train.specs.declared.refusal.Reason.{Reason}
 use Rattle.train.specs.Identities.{sameName}
-use Rattle.train.specs.Refusals.{keeps, firstBreach, alone, each}
+use Rattle.train.specs.Refusals.{keeps, firstBreach, alone}
 use Rattle.fleet.specs.Fleets.{Meaning, vehiclesOf}
 use Rattle.bench.specs.declared.claims.Claim.{Claim}
 use Rattle.bench.specs.Facts.{Facts}
@@ -73,5 +72,6 @@ module _ (m n : Meaning) where
       simp (a, b, b′, c, c′, d, t)
 
   -- the order from the head asks for the vehicles alone
-  pub train-vehicles : (claims : Identity → Option Claim) (es : List Coupled) → All (λ e. vehiclesOf (m (e .identity)) ≡ vehiclesOf (n (e .identity))) es → train m claims es ≡ train n claims es
+  pub train-vehicles : (claims : Identity → Option Claim) (es : List Coupled) → All (λ e. vehiclesOf (m (e .identity)) ≡ vehiclesOf (n (e .identity))) es
+      → train m claims es ≡ train n claims es
   train-vehicles claims es h = joined-cong _ _ es (all-weaker _ _ (λ e q. ap (λ vs. met turnedCar (e .facing) (cars (e .identity) (claims (e .identity)) 1 vs)) q) es h)

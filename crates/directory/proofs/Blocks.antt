@@ -1,18 +1,14 @@
 -- The formation and its consists' vehicles, read back from the cars along the train.
 use mathlib.Core.Path.{_≡_, refl, sym, ap, ap₂, subst, _∙_}
-use mathlib.Core.Bool.{Bool, true, false, cond}
-use mathlib.Core.List.{List, [], _∷_, _++_, map, reverse, reverse-cons}
+use mathlib.Core.List.{List, [], _∷_, _++_, reverse, reverse-cons}
 use Prim.Native.Nat.{ℕ, suc, _+_, _≤_, _<_}
 use native.Mathlib.Omega.{arith}
 use lib.ListN.{length, length-append}
-use lib.Dec.{eqb}
 use Rattle.std.specs.shelf.Lists.{All}
 use Rattle.std.proofs.shelf.Elements.{all-append, all-map, all-weaker}
-use Rattle.std.proofs.shelf.Lists.{length-reverse, length-map}
 use mathlib.Core.Logic.{⊎-elim}
-use Rattle.std.proofs.shelf.Tests.{eq-eqb, cond-true, cases-eq}
+use Rattle.std.proofs.shelf.Tests.{cases-eq}
 use Rattle.std.specs.declared.option.Option.{Option}
-use Rattle.std.specs.declared.option.Option.the-variants.{Some, None}
 use Rattle.train.specs.declared.facing.Facing.{Facing}
 use Rattle.train.specs.declared.facing.Facing.the-variants.{NotKnown, Direct, Inverse}
 use Rattle.train.specs.declared.entries.Coupled.{Coupled}
@@ -30,7 +26,8 @@ use Rattle.directory.proofs.Turns.{length-turned}
 use Rattle.directory.proofs.Heart.{turnedCar-twice}
 
 -- two lists that begin with all the cars of one consist
-pub blocks : (x : Identity) (a b s t : List Car) → All (λ c. c .consist ≡ x) a → All (λ c. c .consist ≡ x) b → All (λ c. c .consist ≡ x → ⊥) s → All (λ c. c .consist ≡ x → ⊥) t → a ++ s ≡ b ++ t → (a ≡ b) × (s ≡ t)
+pub blocks : (x : Identity) (a b s t : List Car) → All (λ c. c .consist ≡ x) a → All (λ c. c .consist ≡ x) b → All (λ c. c .consist ≡ x → ⊥) s
+    → All (λ c. c .consist ≡ x → ⊥) t → a ++ s ≡ b ++ t → (a ≡ b) × (s ≡ t)
 blocks x [] [] s t ha hb hs ht p = (refl, p)
 blocks x [] (b ∷ bs) [] t ha hb hs ht p = nowhere (cc)
 blocks x [] (b ∷ bs) (c ∷ s) t ha hb hs ht p = let e : c ≡ b = cc in absurd (hs .0 (ap (λ z. z .consist) e ∙ hb .0))
@@ -57,7 +54,8 @@ length-cars : (x : Identity) (o : Option Claim) (k : ℕ) (vs : List Vehicle) �
 length-cars x o k [] = refl
 length-cars x o k (v ∷ vs) = ap suc (length-cars x o (k + 1) vs)
 
-met-own : (e : Coupled) (f : Facing) → Known f → e .facing ≡ f → (cs : List Car) → All (λ c. (c .consist ≡ e .identity) × (c .stance ≡ Direct)) cs → All (Of e) (met turnedCar f cs)
+met-own : (e : Coupled) (f : Facing) → Known f → e .facing ≡ f → (cs : List Car) → All (λ c. (c .consist ≡ e .identity) × (c .stance ≡ Direct)) cs
+    → All (Of e) (met turnedCar f cs)
 met-own e NotKnown k q cs h = absurd k
 met-own e Direct k q cs h = all-weaker _ (Of e) (λ c w. (w .0, w .1 ∙ sym q)) cs h
 met-own e Inverse k q cs h =
@@ -88,7 +86,8 @@ Distinct (e ∷ es) = All (λ d. d .identity ≡ e .identity → ⊥) es × Dist
 abbrev pub Full : Meaning → Coupled → Type 0
 Full m e = Known (e .facing) × (1 ≤ length (vehiclesOf (m (e .identity))))
 
-others : (m : Meaning) (claims : Identity → Option Claim) (x : Identity) (es : List Coupled) → All (λ d. d .identity ≡ x → ⊥) es → All (Full m) es → All (λ c. c .consist ≡ x → ⊥) (train m claims es)
+others : (m : Meaning) (claims : Identity → Option Claim) (x : Identity) (es : List Coupled) → All (λ d. d .identity ≡ x → ⊥) es → All (Full m) es
+    → All (λ c. c .consist ≡ x → ⊥) (train m claims es)
 others m claims x [] h g = tt
 others m claims x (e ∷ es) h g =
     all-append _ (stretch m claims e) (train m claims es)
@@ -145,7 +144,8 @@ vehicle-same : (v w : Vehicle) → v .name ≡ w .name → v .facing ≡ w .faci
 vehicle-same v w p q = λ i. record { name = p i; facing = q i }
 
 -- a consist's cars tell its vehicles, and where the lead stands
-pub cars-tell : (x : Identity) (o q : Option Claim) (k : ℕ) (vs ws : List Vehicle) → cars x o k vs ≡ cars x q k ws → (vs ≡ ws) × ((i : ℕ) → k ≤ i → i < k + length vs → mark o i ≡ mark q i)
+pub cars-tell : (x : Identity) (o q : Option Claim) (k : ℕ) (vs ws : List Vehicle) → cars x o k vs ≡ cars x q k ws
+    → (vs ≡ ws) × ((i : ℕ) → k ≤ i → i < k + length vs → mark o i ≡ mark q i)
 cars-tell x o q k [] [] p = (refl, λ i h g. absurd (omega arith))
 cars-tell x o q k [] (w ∷ ws) p = nowhere (cc)
 cars-tell x o q k (v ∷ vs) [] p = nowhere (cc)

@@ -1,9 +1,7 @@
 -- The confirmed list and the train's cars, read back from the operational order.
-use mathlib.Core.Path.{_≡_, refl, sym, ap, ap₂, subst, _∙_}
-use mathlib.Core.Bool.{Bool, true, false, cond, not, _&&_, _||_}
-use mathlib.Core.List.{List, [], _∷_, _++_, map, map-map}
-use Prim.Native.Nat.{ℕ}
-use native.Mathlib.Omega.{arith}
+use mathlib.Core.Path.{_≡_, refl, sym, ap, ap₂, _∙_}
+use mathlib.Core.Bool.{Bool, true, false, not}
+use mathlib.Core.List.{List, [], _∷_, map, map-map}
 use Rattle.std.specs.shelf.Lists.{All, kept-by}
 use Rattle.std.proofs.shelf.Tests.{and-parts, or-parts}
 use Rattle.train.proofs.Equal.{sameName-decides, sameName-sym}
@@ -42,7 +40,8 @@ own-told : (cs : List Car) (ns : List Name) → All (λ c. own c ≡ true) cs �
 own-told cs [] h = refl
 own-told cs (n ∷ ns) h = by (own-told cs ns h) (among sameName n (names cs)) refl
   where
-    by : kept-by own (map (pick cs) ns) ≡ map (pick cs) (struck (names cs) ns) → (b : Bool) → among sameName n (names cs) ≡ b → kept-by own (map (pick cs) (n ∷ ns)) ≡ map (pick cs) (struck (names cs) (n ∷ ns))
+    by : kept-by own (map (pick cs) ns) ≡ map (pick cs) (struck (names cs) ns) → (b : Bool) → among sameName n (names cs) ≡ b
+        → kept-by own (map (pick cs) (n ∷ ns)) ≡ map (pick cs) (struck (names cs) (n ∷ ns))
     by r true e = rw (pick-own cs n h, e) (ap (λ z. pick cs n ∷ z) r)
     by r false e = rw (pick-own cs n h, e) r
 
@@ -63,12 +62,14 @@ pick-self : (cs : List Car) → apart sameName (names cs) ≡ true → map (pick
 pick-self [] e = refl
 pick-self (c ∷ cs) e = by (λ h. pick-self cs h) (among sameName (c .name) (names cs)) refl
   where
-    by : (apart sameName (names cs) ≡ true → map (pick cs) (names cs) ≡ cs) → (b : Bool) → among sameName (c .name) (names cs) ≡ b → map (pick (c ∷ cs)) (names (c ∷ cs)) ≡ c ∷ cs
+    by : (apart sameName (names cs) ≡ true → map (pick cs) (names cs) ≡ cs) → (b : Bool) → among sameName (c .name) (names cs) ≡ b
+        → map (pick (c ∷ cs)) (names (c ∷ cs)) ≡ c ∷ cs
     by r true q = let z = rw q at e in nowhere (cc)
     by r false q =
         let z : apart sameName (names cs) ≡ true = rw q at e in
         ap₂ (λ a b. a ∷ b) (rw (sameName-decides (c .name) (c .name) .1 refl)) (pick-skip c cs (names cs) q ∙ r z)
 
 -- the train's cars, from the operational order
-pub cars-told : (cs : List Car) (ns : List Name) → All (λ c. own c ≡ true) cs → apart sameName (names cs) ≡ true → sameNames (struck (names cs) ns) (names cs) ≡ true → kept-by own (map (pick cs) ns) ≡ cs
+pub cars-told : (cs : List Car) (ns : List Name) → All (λ c. own c ≡ true) cs → apart sameName (names cs) ≡ true → sameNames (struck (names cs) ns) (names cs) ≡ true
+    → kept-by own (map (pick cs) ns) ≡ cs
 cars-told cs ns h d e = own-told cs ns h ∙ ap (map (pick cs)) (same-names (struck (names cs) ns) (names cs) e) ∙ pick-self cs d

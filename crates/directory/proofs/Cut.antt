@@ -1,9 +1,9 @@
 -- The leading-end part of a written composition is what the facts define.
 use mathlib.Core.Path.{_≡_, refl, sym, ap, ap₂, _∙_}
-use mathlib.Core.List.{List, [], _∷_, _++_, map, append-assoc, append-nil}
-use Prim.Native.Nat.{ℕ, zero, suc, _+_, _≤_, _<_}
+use mathlib.Core.List.{List, [], _∷_, _++_, append-assoc, append-nil}
+use Prim.Native.Nat.{ℕ, _+_}
 use native.Mathlib.Omega.{arith}
-use lib.ListN.{length, take, drop, getD, length-append}
+use lib.ListN.{length, take, drop, length-append}
 use Rattle.std.specs.shelf.Lists.{All}
 use Rattle.std.proofs.shelf.Lists.{take-at, drop-at}
 use Rattle.train.specs.declared.entries.Coupled.{Coupled}
@@ -84,12 +84,14 @@ module _ (f : Facts) (m : Meaning) where
         thin = sym (append-assoc (s .car .name .bytes) (n ∷ leadByte (s .car .lead) ∷ code (s .car .lead) ∷ []) (code (s .car .facing) ∷ s .run ∷ 0 ∷ 0 ∷ []));
       }
 
-  pub part-told : All (λ e. Sixteen (e .identity .bytes)) (f .formation) → All (λ c. Sixteen (c .consist .bytes)) (firsts nobody (operational f m)) → All (λ s. Sixteen (s .car .name .bytes)) (seats 0 nobody (operational f m)) → leadingPart (composition f m) ≡ leadingEnd f m
+  pub part-told : All (λ e. Sixteen (e .identity .bytes)) (f .formation) → All (λ c. Sixteen (c .consist .bytes)) (firsts nobody (operational f m))
+      → All (λ s. Sixteen (s .car .name .bytes)) (seats 0 nobody (operational f m)) → leadingPart (composition f m) ≡ leadingEnd f m
   part-told h g i =
       let fs : List Car = firsts nobody (operational f m) in
       let ss : List Seat = seats 0 nobody (operational f m) in
       let vs : List ℕ = section (vehicleRow (vehicleNumber f m)) ss in
-      let a : consists (composition f m) ≡ operationalPart f m = behind-rows (λ e. Sixteen (e .identity .bytes)) (entryRow m) 24 (entry-row-long m) 1 (f .formation) (operationalPart f m) h in
+      let a : consists (composition f m) ≡ operationalPart f m =
+      behind-rows (λ e. Sixteen (e .identity .bytes)) (entryRow m) 24 (entry-row-long m) 1 (f .formation) (operationalPart f m) h in
       let b : vehicles (composition f m) ≡ vs = ap (past 20) a ∙ behind-rows (λ c. Sixteen (c .consist .bytes)) (consistRow (consistNumber f)) 20 consist-long 1 fs vs g in
       let c : thinSection 18 1 (consists (composition f m)) ≡ section (consistRow none) fs =
       ap (thinSection 18 1) a ∙ ap (λ z. length fs ∷ z) (thin-rows (λ c. Sixteen (c .consist .bytes)) (consistRow (consistNumber f)) (consistRow none) 18 1 consist-thin 1 fs vs g) in

@@ -1,7 +1,7 @@
 -- The facts behind a written composition are fine.
 use mathlib.Core.Path.{_≡_, refl, sym, ap, subst, _∙_}
-use mathlib.Core.Bool.{Bool, true, false, cond, not, _||_}
-use mathlib.Core.List.{List, [], _∷_, _++_, map, reverse, map-map}
+use mathlib.Core.Bool.{Bool, true, false, cond, not}
+use mathlib.Core.List.{List, [], _∷_, reverse, map-map}
 use Prim.Native.Nat.{ℕ, _+_, _≤_}
 use native.Mathlib.Omega.{arith}
 use lib.Dec.{leb}
@@ -42,7 +42,7 @@ use Rattle.directory.proofs.Kept.{Kept, leads-all}
 use Rattle.directory.proofs.Turns.{reverse-map}
 use Rattle.directory.proofs.Heart.{composed-known}
 use Rattle.directory.proofs.Recover.{Uniform}
-use Rattle.directory.proofs.Blocks.{Distinct, Full, Of, all-reverse, stretch-own}
+use Rattle.directory.proofs.Blocks.{Distinct, Of, all-reverse, stretch-own}
 use Rattle.directory.proofs.Alikes.{apart-reverse, names-turned}
 use Rattle.directory.proofs.Passes.{refuses, passed}
 use Rattle.directory.proofs.Oriented.{train-met, turnedCoupled-twice, Fitting}
@@ -98,7 +98,8 @@ stances (e ∷ es) h = (
   all-weaker _ _ (λ d w. by d (w .0) (w .1) (sameIdentity (d .identity) (e .identity)) refl) es (all-both (λ d. d .identity ≡ e .identity → ⊥) (λ d. stanceIn es (d .identity) ≡ d .facing) es (h .0) (stances es (h .1))),
 )
   where
-    by : (d : Coupled) → (d .identity ≡ e .identity → ⊥) → stanceIn es (d .identity) ≡ d .facing → (b : Bool) → sameIdentity (d .identity) (e .identity) ≡ b → stanceIn (e ∷ es) (d .identity) ≡ d .facing
+    by : (d : Coupled) → (d .identity ≡ e .identity → ⊥) → stanceIn es (d .identity) ≡ d .facing → (b : Bool) → sameIdentity (d .identity) (e .identity) ≡ b
+        → stanceIn (e ∷ es) (d .identity) ≡ d .facing
     by d n p true q = absurd (n (sameIdentity-decides (d .identity) (e .identity) .0 q))
     by d n p false q = rw q p
 
@@ -139,7 +140,8 @@ seats-all : (P : Car → Type 0) (n : ℕ) (k : Identity) (cs : List Car) → Al
 seats-all P n k [] h = tt
 seats-all P n k (c ∷ cs) h = by (seats-all P n k cs (h .1)) (seats-all P (n + 1) (c .consist) cs (h .1)) (sameIdentity k (c .consist)) refl
   where
-    by : All (λ s. P (s .car)) (seats n k cs) → All (λ s. P (s .car)) (seats (n + 1) (c .consist) cs) → (b : Bool) → sameIdentity k (c .consist) ≡ b → All (λ s. P (s .car)) (seats n k (c ∷ cs))
+    by : All (λ s. P (s .car)) (seats n k cs) → All (λ s. P (s .car)) (seats (n + 1) (c .consist) cs) → (b : Bool) → sameIdentity k (c .consist) ≡ b
+        → All (λ s. P (s .car)) (seats n k (c ∷ cs))
     by r s true e = rw e (h .0, r)
     by r s false e = rw e (h .0, s)
 

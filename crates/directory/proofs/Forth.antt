@@ -1,9 +1,9 @@
--- Part (b), from the bytes to the facts, of two fine sides.
-use mathlib.Core.Path.{_≡_, refl, sym, ap, ap₂, subst, _∙_}
-use mathlib.Core.Bool.{Bool, true, false, cond}
-use mathlib.Core.List.{List, [], _∷_, _++_, map}
-use mathlib.Core.Logic.{_⊎_, inl, inr}
-use Prim.Native.Nat.{ℕ, suc, _+_, _≤_, _<_}
+-- Equal leading ends of two fine facts: one confirmed list, one formation or its turn, one train.
+use mathlib.Core.Path.{_≡_, refl, sym, ap, _∙_}
+use mathlib.Core.Bool.{true, false, cond}
+use mathlib.Core.List.{List, [], _∷_}
+use mathlib.Core.Logic.{_⊎_}
+use Prim.Native.Nat.{ℕ}
 use native.Mathlib.Omega.{arith}
 use lib.ListN.{length}
 use lib.Dec.{eqb}
@@ -39,7 +39,9 @@ pub record Fine (f : Facts) (m : Meaning) : Type 0 where
   pub distinctly : apart sameName (names (fromHead f m)) ≡ true
   pub order : inOrder (f .confirmed) (names (fromHead f m)) ≡ true
 
-order-tells : (ns ks : List Name) (cs ds : List Car) → All (λ c. own c ≡ true) cs → All (λ c. own c ≡ true) ds → apart sameName (names cs) ≡ true → apart sameName (names ds) ≡ true → inOrder ns (names cs) ≡ true → inOrder ks (names ds) ≡ true → _≡_ {A = ℕ} (cond (eqb 0 (length ns)) 1 2) (cond (eqb 0 (length ks)) 1 2) → ordered ns cs ≡ ordered ks ds → (ns ≡ ks) × (cs ≡ ds)
+order-tells : (ns ks : List Name) (cs ds : List Car) → All (λ c. own c ≡ true) cs → All (λ c. own c ≡ true) ds → apart sameName (names cs) ≡ true
+    → apart sameName (names ds) ≡ true → inOrder ns (names cs) ≡ true → inOrder ks (names ds) ≡ true
+    → _≡_ {A = ℕ} (cond (eqb 0 (length ns)) 1 2) (cond (eqb 0 (length ks)) 1 2) → ordered ns cs ≡ ordered ks ds → (ns ≡ ks) × (cs ≡ ds)
 order-tells [] [] cs ds h g a b i j s p = (refl, p)
 order-tells [] (k ∷ ks) cs ds h g a b i j s p =
     let q : eqb 0 (length (k ∷ ks)) ≡ false = ne-eqb 0 (length (k ∷ ks)) (λ z. omega arith) in
@@ -53,7 +55,8 @@ order-tells (n ∷ ns) (k ∷ ks) cs ds h g a b i j s p =
     let e : n ∷ ns ≡ k ∷ ks = sym (confirmed-told cs (n ∷ ns)) ∙ ap names p ∙ confirmed-told ds (k ∷ ks) in
     (e, sym (cars-told cs (n ∷ ns) h a i) ∙ ap (kept-by own) p ∙ cars-told ds (k ∷ ks) g b j)
 
-pub led-core : (f g : Facts) (m n : Meaning) → Fine f m → Fine g n → leadingEnd f m ≡ leadingEnd g n → (f .confirmed ≡ g .confirmed) × ((g .formation ≡ f .formation) ⊎ (g .formation ≡ turnedList turnedCoupled (f .formation))) × (met turnedCoupled (orientation f) (f .formation) ≡ met turnedCoupled (orientation g) (g .formation)) × All (Cars m n (f .claims) (g .claims)) (met turnedCoupled (orientation f) (f .formation))
+pub led-core : (f g : Facts) (m n : Meaning) → Fine f m → Fine g n → leadingEnd f m ≡ leadingEnd g n
+    → (f .confirmed ≡ g .confirmed) × ((g .formation ≡ f .formation) ⊎ (g .formation ≡ turnedList turnedCoupled (f .formation))) × (met turnedCoupled (orientation f) (f .formation) ≡ met turnedCoupled (orientation g) (g .formation)) × All (Cars m n (f .claims) (g .claims)) (met turnedCoupled (orientation f) (f .formation))
 led-core f g m n h k p =
     let st : status f ≡ status g = ap (λ z. headOr z) p in
     let se : operationalSections none none (operational f m) ≡ operationalSections none none (operational g n) = ap tailOf p in

@@ -1,7 +1,6 @@
 -- A formation turned, with the claims as they were, has the same order from the head.
-use mathlib.Core.Path.{_≡_, refl, sym, ap, _∙_}
-use mathlib.Core.List.{List, [], _∷_, _++_, map}
-use Prim.Native.Nat.{ℕ, _+_}
+use mathlib.Core.Path.{_≡_, refl, sym}
+use mathlib.Core.List.{List, [], _∷_}
 use Rattle.std.specs.shelf.Lists.{All}
 use Rattle.std.specs.declared.option.Option.{Option}
 use Rattle.std.specs.declared.option.Option.the-variants.{Some, None}
@@ -42,7 +41,7 @@ composed-known Inverse NotKnown p q = q
 composed-known Inverse Direct p q = tt
 composed-known Inverse Inverse p q = tt
 
--- meeting a list turnedList is the meeting turnedList
+-- meeting a list from the other end is the meeting turned
 pub met-inverse : (o : Facing) → Known o → (cs : List Car) → met turnedCar (opposite o) cs ≡ turnedList turnedCar (met turnedCar o cs)
 met-inverse NotKnown k cs = absurd k
 met-inverse Direct k cs = refl
@@ -72,7 +71,8 @@ module _ (m : Meaning) (claims : Identity → Option Claim) where
       go (x ∷ xs) = (leadOf-turned x (claims (x .identity)), go xs)
 
   -- with one claim the order from the head is the same
-  pub head-same : (es : List Coupled) (l : Lead) → All (λ e. Known (e .facing)) es → leads claims es ≡ l ∷ [] → Known (l .at .direction) → Known (l .entry .facing) → met turnedCar (orient (leads claims (turnedList turnedCoupled es))) (train m claims (turnedList turnedCoupled es)) ≡ met turnedCar (orient (leads claims es)) (train m claims es)
+  pub head-same : (es : List Coupled) (l : Lead) → All (λ e. Known (e .facing)) es → leads claims es ≡ l ∷ [] → Known (l .at .direction) → Known (l .entry .facing)
+      → met turnedCar (orient (leads claims (turnedList turnedCoupled es))) (train m claims (turnedList turnedCoupled es)) ≡ met turnedCar (orient (leads claims es)) (train m claims es)
   head-same es l h one kd kf =
       rw (leads-turned es, one, train-turned es h, composed-opposite (l .at .direction) (l .entry .facing))
       (met-turned turnedCar turnedCar-twice (composed (l .at .direction) (l .entry .facing)) (composed-known (l .at .direction) (l .entry .facing) kd kf) (train m claims es))

@@ -1,9 +1,9 @@
 -- What stands after every run, in the words of these proofs.
 use mathlib.Core.Path.{_≡_, refl, sym, ap, fun-ext, _∙_}
-use mathlib.Core.Bool.{Bool, true, false, not, _&&_, _||_}
-use mathlib.Core.List.{List, [], _∷_, _++_}
+use mathlib.Core.Bool.{true, false}
+use mathlib.Core.List.{List, [], _∷_}
 use mathlib.Core.Logic.{_↔_, ⊎-elim}
-use Prim.Native.Nat.{ℕ, _+_, _≤_, _<_, _^_}
+use Prim.Native.Nat.{_≤_, _<_, _^_}
 use native.Mathlib.Omega.{arith}
 use lib.ListN.{length, length-append}
 use Rattle.std.specs.shelf.Lists.{All}
@@ -72,7 +72,9 @@ module _ (claims : Identity → Option Claim) where
       (λ q. let r = leads-some x c es p q in simp length-append (omega arith))
       (or-cases (sameIdentity x (d .identity)) (among sameIdentity x (identities es)) e)
 
-  pub leads-all : (P : Lead → Type 0) → (es : List Coupled) → ((e : Coupled) (c : Claim) → claims (e .identity) ≡ Some c → Known (e .facing) → P (record { entry = e; at = c })) → All (λ e. Known (e .facing)) es → All P (leads claims es)
+  pub leads-all : (P : Lead → Type 0) → (es : List Coupled)
+      → ((e : Coupled) (c : Claim) → claims (e .identity) ≡ Some c → Known (e .facing) → P (record { entry = e; at = c })) → All (λ e. Known (e .facing)) es
+      → All P (leads claims es)
   leads-all P [] h k = tt
   leads-all P (e ∷ es) h k = all-append P (leadOf e (claims (e .identity))) (leads claims es) (by (claims (e .identity)) refl) (leads-all P es h (k .1))
     where

@@ -1,9 +1,9 @@
 -- The orientation, from the claim that stands.
 use mathlib.Core.Path.{_≡_, refl, sym, ap, subst, _∙_}
 use mathlib.Core.List.{List, [], _∷_, _++_}
-use Prim.Native.Nat.{ℕ, _+_, _≤_, _<_}
+use Prim.Native.Nat.{_≤_}
 use native.Mathlib.Omega.{arith}
-use lib.ListN.{length, length-append}
+use lib.ListN.{length}
 use Rattle.std.specs.shelf.Lists.{All}
 use Rattle.std.proofs.shelf.Elements.{all-weaker}
 use Rattle.std.specs.declared.option.Option.{Option}
@@ -20,16 +20,19 @@ module _ (claims : Identity → Option Claim) where
   none-leads [] h = tt
   none-leads (e ∷ es) h = by (λ z. none-leads es z) (claims (e .identity)) refl
     where
-      by : (length (leads claims es) ≤ 0 → All (λ d. claims (d .identity) ≡ None) es) → (o : Option Claim) → claims (e .identity) ≡ o → (claims (e .identity) ≡ None) × All (λ d. claims (d .identity) ≡ None) es
+      by : (length (leads claims es) ≤ 0 → All (λ d. claims (d .identity) ≡ None) es) → (o : Option Claim) → claims (e .identity) ≡ o
+          → (claims (e .identity) ≡ None) × All (λ d. claims (d .identity) ≡ None) es
       by r None q = (q, r (rw q at h))
       by r (Some c) q = let z : length (leadOf e (Some c) ++ leads claims es) ≤ 0 = rw q at h in absurd (omega arith)
 
   -- the one claim's direction, seen composed its consist's facing
-  pub orient-at : (x : Identity) (c : Claim) → claims x ≡ Some c → (es : List Coupled) → length (leads claims es) ≤ 1 → All (λ e. e .identity ≡ x → orient (leads claims es) ≡ composed (c .direction) (e .facing)) es
+  pub orient-at : (x : Identity) (c : Claim) → claims x ≡ Some c → (es : List Coupled) → length (leads claims es) ≤ 1
+      → All (λ e. e .identity ≡ x → orient (leads claims es) ≡ composed (c .direction) (e .facing)) es
   orient-at x c p [] h = tt
   orient-at x c p (d ∷ es) h = by (λ z. orient-at x c p es z) (claims (d .identity)) refl
     where
-      by : (length (leads claims es) ≤ 1 → All (λ e. e .identity ≡ x → orient (leads claims es) ≡ composed (c .direction) (e .facing)) es) → (o : Option Claim) → claims (d .identity) ≡ o → All (λ e. e .identity ≡ x → orient (leads claims (d ∷ es)) ≡ composed (c .direction) (e .facing)) (d ∷ es)
+      by : (length (leads claims es) ≤ 1 → All (λ e. e .identity ≡ x → orient (leads claims es) ≡ composed (c .direction) (e .facing)) es) → (o : Option Claim)
+          → claims (d .identity) ≡ o → All (λ e. e .identity ≡ x → orient (leads claims (d ∷ es)) ≡ composed (c .direction) (e .facing)) (d ∷ es)
       by r None q =
           let same : leads claims (d ∷ es) ≡ leads claims es = ap (λ o. leadOf d o ++ leads claims es) q in (
             λ z. let w : None ≡ Some c = sym q ∙ ap claims z ∙ p in nowhere (cc),

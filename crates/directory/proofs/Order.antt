@@ -1,5 +1,5 @@
 -- The order from the head is the one that the rule tells.
-use mathlib.Core.Path.{_≡_, refl, sym, ap, ap₂, _∙_}
+use mathlib.Core.Path.{_≡_, refl, sym, ap, _∙_}
 use mathlib.Core.List.{List, [], _∷_, _++_, map, reverse}
 use Prim.Native.Nat.{ℕ, _+_}
 use Rattle.std.specs.Joined.{joined}
@@ -16,6 +16,7 @@ use Rattle.fleet.specs.Fleets.{Meaning, vehiclesOf}
 use Rattle.directory.proofs.Vocabulary.{Known}
 use Rattle.train.specs.Facings.{composed, opposite}
 use Rattle.train.specs.Turning.{turnedCoupled}
+use Rattle.train.proofs.Facings.{facing-laws}
 use Rattle.directory.specs.Cars.{met, turnedCar, cars, stretch, train}
 use Rattle.bench.specs.Facts.{Facts}
 use Rattle.directory.specs.Operation.{orientation, fromHead}
@@ -24,17 +25,6 @@ use Rattle.directory.proofs.Turns.{reverse-map}
 use Rattle.directory.proofs.Asks.{joined-cong}
 use Rattle.directory.proofs.Blocks.{all-reverse}
 use Rattle.directory.proofs.Oriented.{train-met}
-
-pub composed-comm : (f g : Facing) → composed f g ≡ composed g f
-composed-comm NotKnown NotKnown = refl
-composed-comm NotKnown Direct = refl
-composed-comm NotKnown Inverse = refl
-composed-comm Direct NotKnown = refl
-composed-comm Direct Direct = refl
-composed-comm Direct Inverse = refl
-composed-comm Inverse NotKnown = refl
-composed-comm Inverse Direct = refl
-composed-comm Inverse Inverse = refl
 
 opposite-as : (f : Facing) → opposite f ≡ composed f Inverse
 opposite-as NotKnown = refl
@@ -47,7 +37,7 @@ joined-map f g (x ∷ xs) = ap (λ z. f (g x) ++ z) (joined-map f g xs)
 
 kept : (x : Identity) (o : Option Claim) (k : ℕ) (vs : List Vehicle) → cars x o k vs ≡ coaches x Direct o k vs
 kept x o k [] = refl
-kept x o k (v ∷ vs) = rw (kept x o (k + 1) vs, composed-comm (v .facing) Direct)
+kept x o k (v ∷ vs) = rw (kept x o (k + 1) vs, facing-laws .commutative (v .facing) Direct)
 
 reversed : (x : Identity) (o : Option Claim) (k : ℕ) (vs : List Vehicle) → map turnedCar (cars x o k vs) ≡ coaches x Inverse o k vs
 reversed x o k [] = refl
@@ -65,14 +55,16 @@ turn-known Inverse h = tt
 
 module _ (m : Meaning) (claims : Identity → Option Claim) where
   -- an entry met from the head
-  stretch-told : (o g : Facing) (e : Coupled) → g ≡ composed (e .facing) o → Known g → met turnedCar g (cars (e .identity) (claims (e .identity)) 1 (vehiclesOf (m (e .identity)))) ≡ block m claims o e
+  stretch-told : (o g : Facing) (e : Coupled) → g ≡ composed (e .facing) o → Known g
+      → met turnedCar g (cars (e .identity) (claims (e .identity)) 1 (vehiclesOf (m (e .identity)))) ≡ block m claims o e
   stretch-told o g e p h =
       met-told g h (e .identity) (claims (e .identity)) (vehiclesOf (m (e .identity)))
       ∙ ap (λ s. along s (coaches (e .identity) s (claims (e .identity)) 1 (vehiclesOf (m (e .identity))))) p
 
-  train-told : (o : Facing) → Known o → (es : List Coupled) → All (λ e. Known (e .facing)) es → train m claims (met turnedCoupled o es) ≡ joined (block m claims o) (along o es)
+  train-told : (o : Facing) → Known o → (es : List Coupled) → All (λ e. Known (e .facing)) es
+      → train m claims (met turnedCoupled o es) ≡ joined (block m claims o) (along o es)
   train-told NotKnown k es h = absurd k
-  train-told Direct k es h = joined-cong _ _ es (all-weaker _ _ (λ e z. stretch-told Direct (e .facing) e (composed-comm Direct (e .facing)) z) es h)
+  train-told Direct k es h = joined-cong _ _ es (all-weaker _ _ (λ e z. stretch-told Direct (e .facing) e (facing-laws .commutative Direct (e .facing)) z) es h)
   train-told Inverse k es h =
       joined-map (stretch m claims) turnedCoupled (reverse es)
       ∙ joined-cong _ _ (reverse es)

@@ -1,13 +1,13 @@
 -- The claim and the formation, from what is read back.
-use mathlib.Core.Path.{_≡_, refl, sym, ap, ap₂, subst, _∙_}
-use mathlib.Core.Bool.{Bool, true, false, cond}
-use mathlib.Core.List.{List, [], _∷_, _++_, map}
+use mathlib.Core.Path.{_≡_, refl, sym, ap, subst, _∙_}
+use mathlib.Core.Bool.{Bool, true, false}
+use mathlib.Core.List.{List}
 use mathlib.Core.Logic.{_⊎_, inl, inr}
 use Prim.Native.Nat.{ℕ, _+_, _≤_, _<_}
 use native.Mathlib.Omega.{arith}
 use lib.Dec.{eqb}
 use Rattle.std.specs.shelf.Lists.{All}
-use Rattle.std.proofs.shelf.Tests.{eq-eqb, eqb-true, cases-bool}
+use Rattle.std.proofs.shelf.Tests.{eq-eqb, eqb-true}
 use Rattle.std.specs.declared.option.Option.{Option}
 use Rattle.std.specs.declared.option.Option.the-variants.{Some, None}
 use Rattle.train.specs.declared.facing.Facing.{Facing}
@@ -23,7 +23,8 @@ use Rattle.train.proofs.Turns.{turned-twice}
 use Rattle.directory.proofs.Heart.{opposite-twice, train-turned}
 
 -- the train met from the head is the train of the formation met from the head
-pub train-met : (m : Meaning) (claims : Identity → Option Claim) (o : Facing) (es : List Coupled) → All (λ e. Known (e .facing)) es → met turnedCar o (train m claims es) ≡ train m claims (met turnedCoupled o es)
+pub train-met : (m : Meaning) (claims : Identity → Option Claim) (o : Facing) (es : List Coupled) → All (λ e. Known (e .facing)) es
+    → met turnedCar o (train m claims es) ≡ train m claims (met turnedCoupled o es)
 train-met m claims NotKnown es h = refl
 train-met m claims Direct es h = refl
 train-met m claims Inverse es h = sym (train-turned m claims es h)
@@ -32,7 +33,8 @@ pub turnedCoupled-twice : (e : Coupled) → turnedCoupled (turnedCoupled e) ≡ 
 turnedCoupled-twice e = rw (opposite-twice (e .facing))
 
 -- formations that are met alike are equal or each other's turn
-pub met-alike : (o p : Facing) (es fs : List Coupled) → Known o → Known p → met turnedCoupled o es ≡ met turnedCoupled p fs → (fs ≡ es) ⊎ (fs ≡ turnedList turnedCoupled es)
+pub met-alike : (o p : Facing) (es fs : List Coupled) → Known o → Known p → met turnedCoupled o es ≡ met turnedCoupled p fs
+    → (fs ≡ es) ⊎ (fs ≡ turnedList turnedCoupled es)
 met-alike NotKnown p es fs h g e = absurd h
 met-alike Direct NotKnown es fs h g e = absurd g
 met-alike Direct Direct es fs h g e = inl (sym e)

@@ -1,9 +1,8 @@
 -- What a written answer says of the checks.
-use mathlib.Core.Path.{_≡_, refl, sym, ap, _∙_}
-use mathlib.Core.Bool.{Bool, true, false, not}
+use mathlib.Core.Path.{_≡_, refl, sym, _∙_}
+use mathlib.Core.Bool.{true}
 use mathlib.Core.List.{List, []}
 use Prim.Native.Nat.{ℕ, _≤_}
-use native.Mathlib.Omega.{arith}
 use lib.ListN.{length}
 use Rattle.std.specs.shelf.Lists.{All}
 use Rattle.std.proofs.shelf.Tests.{leb-true}
@@ -21,8 +20,8 @@ use Rattle.bench.specs.Facts.{Facts}
 use Rattle.bench.proofs.Sound.{keeps-each}
 use Rattle.directory.specs.Cars.{train}
 use Rattle.directory.specs.Operation.{leads, fromHead, names}
-use Rattle.directory.specs.Composing.{checks, Outcome, outcome, has, inReach, inOrder}
-use Rattle.directory.specs.Composing.Outcome.{refused, written}
+use Rattle.directory.specs.Composing.{checks, outcome, has, inReach, inOrder}
+use Rattle.directory.specs.Composing.Outcome.{written}
 use Rattle.directory.proofs.Vocabulary.{nowhere, apart, keys-apart}
 
 -- the first check that is not met

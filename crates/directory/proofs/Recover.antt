@@ -1,13 +1,9 @@
 -- The cars from the head, read back from the operational sections.
 use mathlib.Core.Path.{_≡_, refl, sym, ap, ap₂, _∙_}
-use mathlib.Core.Bool.{Bool, true, false, cond}
-use mathlib.Core.List.{List, [], _∷_, _++_, map}
-use mathlib.Core.Logic.{_⊎_, inl, inr, ⊎-elim}
-use Prim.Native.Nat.{ℕ, suc, _+_, _≤_, _<_}
+use mathlib.Core.Bool.{Bool, true, false}
+use mathlib.Core.List.{List, [], _∷_, map}
+use Prim.Native.Nat.{ℕ, _+_}
 use native.Mathlib.Omega.{arith}
-use lib.ListN.{length}
-use Rattle.std.specs.shelf.Lists.{All}
-use Rattle.std.proofs.shelf.Tests.{cases-bool}
 use Rattle.train.proofs.Equal.{sameIdentity-decides}
 use Rattle.train.specs.declared.facing.Facing.{Facing}
 use Rattle.train.specs.Identities.{sameIdentity}
@@ -36,7 +32,8 @@ lone : (n : ℕ) (k : Identity) (d : Car) (ds : List Car) (b : Bool) → sameIde
 lone n k d ds true q f = let g = rw q at f in nowhere (cc)
 lone n k d ds false q f = let g = rw q at f in nowhere (cc)
 
-step : (n : ℕ) (k : Identity) (p : Facing) (c d : Car) (cs ds : List Car) → ((n′ : ℕ) (k′ : Identity) (p′ : Facing) → ReadBack n′ k′ p′ cs ds) → (a : Bool) → sameIdentity k (c .consist) ≡ a → (b : Bool) → sameIdentity k (d .consist) ≡ b → ReadBack n k p (c ∷ cs) (d ∷ ds)
+step : (n : ℕ) (k : Identity) (p : Facing) (c d : Car) (cs ds : List Car) → ((n′ : ℕ) (k′ : Identity) (p′ : Facing) → ReadBack n′ k′ p′ cs ds) → (a : Bool)
+    → sameIdentity k (c .consist) ≡ a → (b : Bool) → sameIdentity k (d .consist) ≡ b → ReadBack n k p (c ∷ cs) (d ∷ ds)
 step n k p c d cs ds rec true q true r u v e f =
     let e′ = rw (q, r) at e in
     let f′ = rw (q, r) at f in

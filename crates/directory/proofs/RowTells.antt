@@ -1,7 +1,7 @@
 -- Sections of rows of one length: equal bytes, equal entries.
 use mathlib.Core.Path.{_≡_, refl, sym, ap, ap₂, _∙_}
 use mathlib.Core.List.{List, [], _∷_, _++_, map, append-assoc, append-nil}
-use Prim.Native.Nat.{ℕ, suc, _+_, _≤_, _<_}
+use Prim.Native.Nat.{ℕ, _+_}
 use native.Mathlib.Omega.{arith}
 use lib.ListN.{length, take, drop, length-append}
 use Rattle.std.specs.shelf.Lists.{All}
@@ -25,12 +25,14 @@ fronts a b s t e p = (
 
 -- a row of k bytes gives away the key of what it stands for
 module _ {X K : Type 0} (Ok : X → Type 0) (row : ℕ → X → List ℕ) (key : X → K) (k : ℕ) (fixed : (n : ℕ) (x : X) → Ok x → length (row n x) ≡ k) (tells : (n : ℕ) (x y : X) → Ok x → Ok y → row n x ≡ row n y → key x ≡ key y) where
-  pub rows-tell : (n : ℕ) (xs ys : List X) (s t : List ℕ) → All Ok xs → All Ok ys → length xs ≡ length ys → rows row n xs ++ s ≡ rows row n ys ++ t → (map key xs ≡ map key ys) × (s ≡ t)
+  pub rows-tell : (n : ℕ) (xs ys : List X) (s t : List ℕ) → All Ok xs → All Ok ys → length xs ≡ length ys → rows row n xs ++ s ≡ rows row n ys ++ t
+      → (map key xs ≡ map key ys) × (s ≡ t)
   rows-tell n [] [] s t h g e p = (refl, p)
   rows-tell n [] (y ∷ ys) s t h g e p = absurd (omega arith)
   rows-tell n (x ∷ xs) [] s t h g e p = absurd (omega arith)
   rows-tell n (x ∷ xs) (y ∷ ys) s t h g e p =
-      let q : row n x ++ (rows row (n + 1) xs ++ s) ≡ row n y ++ (rows row (n + 1) ys ++ t) = sym (append-assoc (row n x) (rows row (n + 1) xs) s) ∙ p ∙ append-assoc (row n y) (rows row (n + 1) ys) t in
+      let q : row n x ++ (rows row (n + 1) xs ++ s) ≡ row n y ++ (rows row (n + 1) ys ++ t) =
+      sym (append-assoc (row n x) (rows row (n + 1) xs) s) ∙ p ∙ append-assoc (row n y) (rows row (n + 1) ys) t in
       let w = fronts (row n x) (row n y) (rows row (n + 1) xs ++ s) (rows row (n + 1) ys ++ t) (fixed n x (h .0) ∙ sym (fixed n y (g .0))) q in
       let r = rows-tell (n + 1) xs ys s t (h .1) (g .1) (omega arith) (w .1) in
       (ap₂ (λ a b. a ∷ b) (tells n x y (h .0) (g .0) (w .0)) (r .0), r .1)
@@ -82,7 +84,8 @@ pub record Row : Type 0 where
 abbrev pub rowOf : Seat → Row
 rowOf s = record { name = s .car .name; lead = s .car .lead; facing = s .car .facing; run = s .run }
 
-pub vehicle-row-tells : (n : ℕ) (c d : Seat) → Sixteen (c .car .name .bytes) → Sixteen (d .car .name .bytes) → vehicleRow none n c ≡ vehicleRow none n d → rowOf c ≡ rowOf d
+pub vehicle-row-tells : (n : ℕ) (c d : Seat) → Sixteen (c .car .name .bytes) → Sixteen (d .car .name .bytes) → vehicleRow none n c ≡ vehicleRow none n d
+    → rowOf c ≡ rowOf d
 vehicle-row-tells n c d h g p =
     let w = fronts (c .car .name .bytes) (d .car .name .bytes) _ _ (h ∙ sym g) p in
     let q : code (c .car .lead) ≡ code (d .car .lead) = cc (w .1) in
@@ -94,8 +97,11 @@ vehicle-row-tells n c d h g p =
 pub vehicle-row-long : (n : ℕ) (s : Seat) → Sixteen (s .car .name .bytes) → length (vehicleRow none n s) ≡ 23
 vehicle-row-long n s h = simp length-append (omega arith)
 
--- the two operational operationalSections tell the places of the consists and the rows of the vehicles
-pub sections-tell : (cs ds : List Car) → All (λ c. Sixteen (c .consist .bytes)) (firsts nobody cs) → All (λ c. Sixteen (c .consist .bytes)) (firsts nobody ds) → All (λ s. Sixteen (s .car .name .bytes)) (seats 0 nobody cs) → All (λ s. Sixteen (s .car .name .bytes)) (seats 0 nobody ds) → operationalSections none none cs ≡ operationalSections none none ds → (map spotOf (firsts nobody cs) ≡ map spotOf (firsts nobody ds)) × (map rowOf (seats 0 nobody cs) ≡ map rowOf (seats 0 nobody ds))
+-- the two operational sections tell the places of the consists and the rows of the vehicles
+pub sections-tell : (cs ds : List Car) → All (λ c. Sixteen (c .consist .bytes)) (firsts nobody cs) → All (λ c. Sixteen (c .consist .bytes)) (firsts nobody ds)
+    → All (λ s. Sixteen (s .car .name .bytes)) (seats 0 nobody cs) → All (λ s. Sixteen (s .car .name .bytes)) (seats 0 nobody ds)
+    → operationalSections none none cs ≡ operationalSections none none ds
+    → (map spotOf (firsts nobody cs) ≡ map spotOf (firsts nobody ds)) × (map rowOf (seats 0 nobody cs) ≡ map rowOf (seats 0 nobody ds))
 sections-tell cs ds h g i j p =
     let w = section-tells (λ c. Sixteen (c .consist .bytes)) (consistRow none) spotOf 19 consist-row-long consist-row-tells (firsts nobody cs) (firsts nobody ds) (section (vehicleRow none) (seats 0 nobody cs)) (section (vehicleRow none) (seats 0 nobody ds)) h g p in
     let v = section-tells (λ s. Sixteen (s .car .name .bytes)) (vehicleRow none) rowOf 23 vehicle-row-long vehicle-row-tells (seats 0 nobody cs) (seats 0 nobody ds) [] [] i j (append-nil _ ∙ w .1 ∙ sym (append-nil _)) in

@@ -160,14 +160,18 @@ module _ (l r : Side) where
       ∙ ap (λ z. composition z (r .fleet)) e
       ∙ says r c q .0
 
-  ends-alike : Led l → refuses (facts l) (l .fleet) (l .room) ≡ None → facts l .claims ≡ facts r .claims → facts l .confirmed ≡ facts r .confirmed → (facts r .formation ≡ facts l .formation) ⊎ (facts r .formation ≡ turnedList turnedCoupled (facts l .formation)) → leadingEnd (facts l) (r .fleet) ≡ leadingEnd (facts r) (r .fleet)
+  ends-alike : Led l → refuses (facts l) (l .fleet) (l .room) ≡ None → facts l .claims ≡ facts r .claims → facts l .confirmed ≡ facts r .confirmed
+      → (facts r .formation ≡ facts l .formation) ⊎ (facts r .formation ≡ turnedList turnedCoupled (facts l .formation))
+      → leadingEnd (facts l) (r .fleet) ≡ leadingEnd (facts r) (r .fleet)
   ends-alike led u cl co (inl e) = λ i. leadingEnd (record { etb = facts r .etb; formation = sym e i; claims = cl i; confirmed = co i }) (r .fleet)
   ends-alike led u cl co (inr e) =
-      let s : operational (turnFacts (facts l)) (r .fleet) ≡ operational (facts l) (r .fleet) = same-operational (facts l) (r .fleet) (l .room) (run-keeps (l .run) .facings) (led-some l led) (ways l) (passed (facts l) (l .fleet) (l .room) u .single) in
+      let s : operational (turnFacts (facts l)) (r .fleet) ≡ operational (facts l) (r .fleet) =
+      same-operational (facts l) (r .fleet) (l .room) (run-keeps (l .run) .facings) (led-some l led) (ways l) (passed (facts l) (l .fleet) (l .room) u .single) in
       let t : leadingEnd (facts l) (r .fleet) ≡ leadingEnd (turnFacts (facts l)) (r .fleet) = ap (λ z. status (facts l) ∷ operationalSections (λ _. []) (λ _. []) z) (sym s) in
       t ∙ (λ i. leadingEnd (record { etb = facts r .etb; formation = sym e i; claims = cl i; confirmed = co i }) (r .fleet))
 
-  formations-told : 1 ≤ length (facts l .formation) → SameFormation l r ⊎ TurnedFormation l r → (facts r .formation ≡ facts l .formation) ⊎ (facts r .formation ≡ turnedList turnedCoupled (facts l .formation))
+  formations-told : 1 ≤ length (facts l .formation) → SameFormation l r ⊎ TurnedFormation l r
+      → (facts r .formation ≡ facts l .formation) ⊎ (facts r .formation ≡ turnedList turnedCoupled (facts l .formation))
   formations-told h (inl e) = inl (formed-is r (facts l .formation) (e (facts l .formation) .0 (is-formed l (facts l .formation) refl h)) .0)
   formations-told h (inr e) = inr (formed-is r (turnedList turnedCoupled (facts l .formation)) (e (facts l .formation) .0 (is-formed l (facts l .formation) refl h)) .0)
 
@@ -175,17 +179,20 @@ module _ (l r : Side) where
   pub led-back : (b c : List ℕ) → SideLaws l → SideLaws r → answer l ≡ written b → answer r ≡ written c → Led l → SameLead l r → leadingPart b ≡ leadingPart c
   led-back b c rl rr p q led h =
       let f = led-formed l led in
-      let first : leadingEnd (facts l) (l .fleet) ≡ leadingEnd (facts l) (r .fleet) = simp (train-vehicles (l .fleet) (r .fleet) (facts l .claims) (facts l .formation) (h .vehicles (facts l .formation) (is-formed l (facts l .formation) refl f))) in
+      let first : leadingEnd (facts l) (l .fleet) ≡ leadingEnd (facts l) (r .fleet) =
+      simp (train-vehicles (l .fleet) (r .fleet) (facts l .claims) (facts l .formation) (h .vehicles (facts l .formation) (is-formed l (facts l .formation) refl f))) in
       rl .part b p ∙ first ∙ ends-alike led (says l b p .1) (claims-told (h .claims)) (list-told (h .confirmed)) (formations-told f (h .formations)) ∙ sym (rr .part c q)
 
   pub unled-back : (b c : List ℕ) → SideLaws l → SideLaws r → answer l ≡ written b → answer r ≡ written c → SameUnled l r → leadingPart b ≡ leadingPart c
   unled-back b c rl rr p q h =
       let f = passed (facts l) (l .fleet) (l .room) (says l b p .1) .formed in
-      let first : leadingEnd (facts l) (l .fleet) ≡ leadingEnd (facts l) (r .fleet) = simp (train-vehicles (l .fleet) (r .fleet) (facts l .claims) (facts l .formation) (h .vehicles (facts l .formation) (is-formed l (facts l .formation) refl f))) in
+      let first : leadingEnd (facts l) (l .fleet) ≡ leadingEnd (facts l) (r .fleet) =
+      simp (train-vehicles (l .fleet) (r .fleet) (facts l .claims) (facts l .formation) (h .vehicles (facts l .formation) (is-formed l (facts l .formation) refl f))) in
       let cl = claims-told (h .claims) in
       let co = list-told (h .confirmed) in
       let e = formed-is r (facts l .formation) (h .formation (facts l .formation) .0 (is-formed l (facts l .formation) refl f)) .0 in
-      let second : leadingEnd (facts l) (r .fleet) ≡ leadingEnd (facts r) (r .fleet) = λ i. leadingEnd (record { etb = facts r .etb; formation = sym e i; claims = cl i; confirmed = co i }) (r .fleet) in
+      let second : leadingEnd (facts l) (r .fleet) ≡ leadingEnd (facts r) (r .fleet) =
+      λ i. leadingEnd (record { etb = facts r .etb; formation = sym e i; claims = cl i; confirmed = co i }) (r .fleet) in
       rl .part b p ∙ first ∙ second ∙ sym (rr .part c q)
 
   -- a turned formation
@@ -194,12 +201,15 @@ module _ (l r : Side) where
       let f : Facts = facts l in
       let st = standing-formed l (led-formed l led) in
       let w = stands (r .run) (coupled (f .etb) (turnedList turnedCoupled (f .formation))) .1 (h .coupling (f .etb) (f .formation) .0 st) in
-      let main : Alike (composedInto f (l .fleet) (l .room)) (composedInto (turnFacts f) (l .fleet) (l .room)) = turns-alike f (l .fleet) (l .room) (run-keeps (l .run) .facings) (led-some l led) (ways l) in
+      let main : Alike (composedInto f (l .fleet) (l .room)) (composedInto (turnFacts f) (l .fleet) (l .room)) =
+      turns-alike f (l .fleet) (l .room) (run-keeps (l .run) .facings) (led-some l led) (ways l) in
       let cl = claims-told (h .claims) in
       let co = list-told (h .confirmed) in
       let g : turnFacts f ≡ facts r = λ i. record { etb = sym (w .0) i; formation = sym (w .1) i; claims = cl i; confirmed = co i } in
-      let same : All (λ e. l .fleet (e .identity) ≡ r .fleet (e .identity)) (turnedList turnedCoupled (f .formation)) = all-map _ turnedCoupled (reverse (f .formation)) (all-reverse _ (f .formation) (h .fleets (f .formation) (f .etb, st))) in
-      let e : composedInto (turnFacts f) (l .fleet) (l .room) ≡ composedInto (facts r) (r .fleet) (r .room) = composed-into-cong (l .fleet) (r .fleet) (turnFacts f) (l .room) same ∙ ap₂ (λ u v. composedInto u (r .fleet) v) g (h .rooms) in
+      let same : All (λ e. l .fleet (e .identity) ≡ r .fleet (e .identity)) (turnedList turnedCoupled (f .formation)) =
+      all-map _ turnedCoupled (reverse (f .formation)) (all-reverse _ (f .formation) (h .fleets (f .formation) (f .etb, st))) in
+      let e : composedInto (turnFacts f) (l .fleet) (l .room) ≡ composedInto (facts r) (r .fleet) (r .room) =
+      composed-into-cong (l .fleet) (r .fleet) (turnFacts f) (l .room) same ∙ ap₂ (λ u v. composedInto u (r .fleet) v) g (h .rooms) in
       subst (Alike (answer l)) e main
 
 module _ (l r : Side) (ml : IsFleet (l .fleet)) (mr : IsFleet (r .fleet)) (b c : List ℕ) (p : answer l ≡ written b) (q : answer r ≡ written c) where

@@ -1,11 +1,11 @@
 -- Equal leading ends and equal compositions tell the facts.
-use mathlib.Core.Path.{_≡_, refl, sym, ap, ap₂, subst, fun-ext, _∙_}
-use mathlib.Core.Bool.{Bool, true, false, cond, _||_}
-use mathlib.Core.List.{List, [], _∷_, _++_, map, reverse, map-map, append-assoc}
+use mathlib.Core.Path.{_≡_, refl, sym, ap, subst, fun-ext, _∙_}
+use mathlib.Core.Bool.{Bool, true, false}
+use mathlib.Core.List.{List, [], _∷_, _++_, reverse, map-map, append-assoc}
 use mathlib.Core.Logic.{_⊎_, inl, inr, ⊎-elim}
-use Prim.Native.Nat.{ℕ, suc, _+_, _≤_, _<_, _/_, _%_, _^_}
+use Prim.Native.Nat.{ℕ, _+_, _<_, _/_, _%_, _^_}
 use native.Mathlib.Omega.{arith}
-use lib.ListN.{length, take, drop, getD, length-append}
+use lib.ListN.{length, take, drop, getD}
 use Rattle.std.specs.shelf.Lists.{All}
 use Rattle.std.proofs.shelf.Elements.{all-weaker}
 use Rattle.std.proofs.shelf.Tests.{or-cases}
@@ -73,10 +73,12 @@ four-tells a b h g p =
     omega arith
 
 -- the counters of the first section
-counters-tell : (m n : Meaning) (k : ℕ) (es : List Coupled) (s t : List ℕ) → All (λ e. Sixteen (e .identity .bytes)) es → rows (entryRow m) k es ++ s ≡ rows (entryRow n) k es ++ t → All (λ e. four (counterOf (m (e .identity))) ≡ four (counterOf (n (e .identity)))) es
+counters-tell : (m n : Meaning) (k : ℕ) (es : List Coupled) (s t : List ℕ) → All (λ e. Sixteen (e .identity .bytes)) es
+    → rows (entryRow m) k es ++ s ≡ rows (entryRow n) k es ++ t → All (λ e. four (counterOf (m (e .identity))) ≡ four (counterOf (n (e .identity)))) es
 counters-tell m n k [] s t h p = tt
 counters-tell m n k (e ∷ es) s t h p =
-    let q : entryRow m k e ++ (rows (entryRow m) (k + 1) es ++ s) ≡ entryRow n k e ++ (rows (entryRow n) (k + 1) es ++ t) = sym (append-assoc (entryRow m k e) (rows (entryRow m) (k + 1) es) s) ∙ p ∙ append-assoc (entryRow n k e) (rows (entryRow n) (k + 1) es) t in
+    let q : entryRow m k e ++ (rows (entryRow m) (k + 1) es ++ s) ≡ entryRow n k e ++ (rows (entryRow n) (k + 1) es ++ t) =
+    sym (append-assoc (entryRow m k e) (rows (entryRow m) (k + 1) es) s) ∙ p ∙ append-assoc (entryRow n k e) (rows (entryRow n) (k + 1) es) t in
     let w = fronts (entryRow m k e) (entryRow n k e) _ _ (entry-row-long m k e (h .0) ∙ sym (entry-row-long n k e (h .0))) q in
     let v = fronts (e .identity .bytes) (e .identity .bytes) _ _ refl (w .0) in
     (ap (take 4) (v .1), counters-tell m n (k + 1) es s t (h .1) (w .1))
@@ -95,21 +97,26 @@ option-same (Some c) None h g p r = let z = h .counted in absurd (omega arith)
 option-same (Some c) (Some d) h g p r = ap Some (consist-same c d p r)
 
 module _ (f g : Facts) (m n : Meaning) (i j : ℕ) (kf : Kept f) (kg : Kept g) (mf : IsFleet m) (ng : IsFleet n) (ef : refuses f m i ≡ None) (eg : refuses g n j ≡ None) where
-  tell : (d : Coupled) → Cars m n (f .claims) (g .claims) d → Fitting (length (vehiclesOf (m (d .identity)))) (f .claims (d .identity)) → Fitting (length (vehiclesOf (n (d .identity)))) (g .claims (d .identity)) → (vehiclesOf (m (d .identity)) ≡ vehiclesOf (n (d .identity))) × (f .claims (d .identity) ≡ g .claims (d .identity))
+  tell : (d : Coupled) → Cars m n (f .claims) (g .claims) d → Fitting (length (vehiclesOf (m (d .identity)))) (f .claims (d .identity))
+      → Fitting (length (vehiclesOf (n (d .identity)))) (g .claims (d .identity))
+      → (vehiclesOf (m (d .identity)) ≡ vehiclesOf (n (d .identity))) × (f .claims (d .identity) ≡ g .claims (d .identity))
   tell d p q r =
       let w = cars-tell (d .identity) (f .claims (d .identity)) (g .claims (d .identity)) 1 (vehiclesOf (m (d .identity))) (vehiclesOf (n (d .identity))) p in
       (w .0, marks-tell (length (vehiclesOf (m (d .identity)))) (f .claims (d .identity)) (g .claims (d .identity)) q (subst (λ z. Fitting (length z) (g .claims (d .identity))) (sym (w .0)) r) (w .1))
 
-  among-alike : (g .formation ≡ f .formation) ⊎ (g .formation ≡ turnedList turnedCoupled (f .formation)) → (x : Identity) → among sameIdentity x (identities (g .formation)) ≡ among sameIdentity x (identities (f .formation))
+  among-alike : (g .formation ≡ f .formation) ⊎ (g .formation ≡ turnedList turnedCoupled (f .formation)) → (x : Identity)
+      → among sameIdentity x (identities (g .formation)) ≡ among sameIdentity x (identities (f .formation))
   among-alike (inl e) x = ap (λ z. among sameIdentity x (identities z)) e
   among-alike (inr e) x = ap (λ z. among sameIdentity x (identities z)) e ∙ among-turned x (f .formation)
 
   -- equal leading ends
-  pub led-told : leadingEnd f m ≡ leadingEnd g n → (f .claims ≡ g .claims) × (f .confirmed ≡ g .confirmed) × All (λ e. vehiclesOf (m (e .identity)) ≡ vehiclesOf (n (e .identity))) (f .formation) × ((g .formation ≡ f .formation) ⊎ (g .formation ≡ turnedList turnedCoupled (f .formation))) × (met turnedCoupled (orientation f) (f .formation) ≡ met turnedCoupled (orientation g) (g .formation))
+  pub led-told : leadingEnd f m ≡ leadingEnd g n
+      → (f .claims ≡ g .claims) × (f .confirmed ≡ g .confirmed) × All (λ e. vehiclesOf (m (e .identity)) ≡ vehiclesOf (n (e .identity))) (f .formation) × ((g .formation ≡ f .formation) ⊎ (g .formation ≡ turnedList turnedCoupled (f .formation))) × (met turnedCoupled (orientation f) (f .formation) ≡ met turnedCoupled (orientation g) (g .formation))
   led-told p =
       let c = led-core f g m n (fine f m i kf mf ef) (fine g n j kg ng eg) p in
       let ahead : List Coupled = met turnedCoupled (orientation f) (f .formation) in
-      let right : All (λ d. Fitting (length (vehiclesOf (n (d .identity)))) (g .claims (d .identity))) ahead = subst (All (λ d. Fitting (length (vehiclesOf (n (d .identity)))) (g .claims (d .identity)))) (sym (c .2)) (fitting g n j kg ng eg) in
+      let right : All (λ d. Fitting (length (vehiclesOf (n (d .identity)))) (g .claims (d .identity))) ahead =
+      subst (All (λ d. Fitting (length (vehiclesOf (n (d .identity)))) (g .claims (d .identity)))) (sym (c .2)) (fitting g n j kg ng eg) in
       let both : All (λ d. (vehiclesOf (m (d .identity)) ≡ vehiclesOf (n (d .identity))) × (f .claims (d .identity) ≡ g .claims (d .identity))) ahead =
       all-weaker _ _ (λ d w. tell d (w .0) (w .1 .0) (w .1 .1)) ahead
       (all-both (Cars m n (f .claims) (g .claims)) (λ d. Fitting (length (vehiclesOf (m (d .identity)))) (f .claims (d .identity)) × Fitting (length (vehiclesOf (n (d .identity)))) (g .claims (d .identity))) ahead (c .3)
@@ -117,7 +124,9 @@ module _ (f g : Facts) (m n : Meaning) (i j : ℕ) (kf : Kept f) (kg : Kept g) (
       let here = all-unmet (λ d. (vehiclesOf (m (d .identity)) ≡ vehiclesOf (n (d .identity))) × (f .claims (d .identity) ≡ g .claims (d .identity))) (λ d z. z) (orientation f) (f .formation) both in
       (fun-ext (λ x. by (c .1) (all-weaker _ _ (λ d w. w .1) (f .formation) here) x (among sameIdentity x (identities (f .formation))) refl), c .0, all-weaker _ _ (λ d w. w .0) (f .formation) here, c .1, c .2)
     where
-      by : (g .formation ≡ f .formation) ⊎ (g .formation ≡ turnedList turnedCoupled (f .formation)) → All (λ d. f .claims (d .identity) ≡ g .claims (d .identity)) (f .formation) → (x : Identity) (b : Bool) → among sameIdentity x (identities (f .formation)) ≡ b → f .claims x ≡ g .claims x
+      by : (g .formation ≡ f .formation) ⊎ (g .formation ≡ turnedList turnedCoupled (f .formation))
+          → All (λ d. f .claims (d .identity) ≡ g .claims (d .identity)) (f .formation) → (x : Identity) (b : Bool) → among sameIdentity x (identities (f .formation)) ≡ b
+          → f .claims x ≡ g .claims x
       by o h x true q = among-all (λ y. f .claims y ≡ g .claims y) x (f .formation) h q
       by o h x false q = none-outside f kf x q ∙ sym (none-outside g kg x (among-alike o x ∙ q))
 
@@ -130,7 +139,8 @@ module _ (f g : Facts) (m n : Meaning) (i j : ℕ) (kf : Kept f) (kg : Kept g) (
       let o : orientation f ≡ orientation g = code-tells (orientation f) (orientation g) (ap (λ z. getD z 2 0) p) in
       let fe : f .formation ≡ g .formation = met-entries-tell (orientation f) (f .formation) (g .formation) (w .4 ∙ ap (λ z. met turnedCoupled z (g .formation)) (sym o)) in
       let etb : f .etb ≡ g .etb = four-tells (f .etb) (g .etb) (kf .etb) (kg .etb) (ap (λ z. take 4 (drop 4 z)) p) in
-      let r : rows (entryRow m) 1 (f .formation) ++ operationalPart f m ≡ rows (entryRow n) 1 (f .formation) ++ operationalPart g n = ap (λ z. drop 17 z) p ∙ ap (λ z. rows (entryRow n) 1 z ++ operationalPart g n) (sym fe) in
+      let r : rows (entryRow m) 1 (f .formation) ++ operationalPart f m ≡ rows (entryRow n) 1 (f .formation) ++ operationalPart g n =
+      ap (λ z. drop 17 z) p ∙ ap (λ z. rows (entryRow n) 1 z ++ operationalPart g n) (sym fe) in
       let cs = counters-tell m n 1 (f .formation) (operationalPart f m) (operationalPart g n) (kf .sixteen) r in (
         λ k. record { etb = etb k; formation = fe k; claims = w .0 k; confirmed = w .1 k },
         all-weaker _ _ (λ e z. option-same (m (e .identity)) (n (e .identity)) (mf (e .identity)) (ng (e .identity)) (four-tells _ _ (counter-small (m (e .identity)) (mf (e .identity))) (counter-small (n (e .identity)) (ng (e .identity))) (z .0)) (z .1)) (f .formation) (all-both (λ e. four (counterOf (m (e .identity))) ≡ four (counterOf (n (e .identity)))) (λ e. vehiclesOf (m (e .identity)) ≡ vehiclesOf (n (e .identity))) (f .formation) cs (w .2)),

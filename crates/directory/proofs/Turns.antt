@@ -40,7 +40,8 @@ module _ {X : Type 0} (turn : X → X) where
   met-turned h Inverse k xs = refl
 
 -- what each entry makes turns with it, so the whole turns
-pub joined-turned : {X Y : Type 0} (turnX : X → X) (turnY : Y → Y) (f : X → List Y) (xs : List X) → All (λ x. f (turnX x) ≡ turnedList turnY (f x)) xs → joined f (turnedList turnX xs) ≡ turnedList turnY (joined f xs)
+pub joined-turned : {X Y : Type 0} (turnX : X → X) (turnY : Y → Y) (f : X → List Y) (xs : List X) → All (λ x. f (turnX x) ≡ turnedList turnY (f x)) xs
+    → joined f (turnedList turnX xs) ≡ turnedList turnY (joined f xs)
 joined-turned turnX turnY f [] h = refl
 joined-turned turnX turnY f (x ∷ xs) h =
     ap (joined f) (turned-cons turnX x xs)
