@@ -25,7 +25,7 @@ module _ (claims : Identity → Option Claim) where
       by r None q = (q, r (rw q at h))
       by r (Some c) q = let z : length (leadOf e (Some c) ++ leads claims es) ≤ 0 = rw q at h in absurd (omega arith)
 
-  -- the one claim's direction, seen composed its consist's facing
+  -- the one claim's direction, composed with its consist's facing
   pub orient-at : (x : Identity) (c : Claim) → claims x ≡ Some c → (es : List Coupled) → length (leads claims es) ≤ 1
       → All (λ e. e .identity ≡ x → orient (leads claims es) ≡ composed (c .direction) (e .facing)) es
   orient-at x c p [] h = tt
