@@ -26,3 +26,4 @@ pub mod Alikes
 pub mod Fine
 pub mod Told
 pub mod Sides
+pub mod Seen

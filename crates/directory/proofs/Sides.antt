@@ -15,7 +15,6 @@ use Rattle.train.specs.declared.name.Name.{Name}
 use Rattle.train.specs.declared.entries.Coupled.{Coupled}
 use Rattle.train.specs.Turning.{turnedList, turnedCoupled}
 use Rattle.train.proofs.Turns.{turned-twice}
-use Rattle.fleet.specs.Fleets.{Meaning}
 use Rattle.bench.specs.declared.claims.Claim.{Claim}
 use Rattle.bench.specs.Facts.{Facts}
 use Rattle.bench.specs.Standing.{Fact, Stands, Holds}
@@ -25,10 +24,10 @@ use Rattle.bench.proofs.Accepting.{accepted-as-told}
 use Rattle.directory.specs.Cars.{met}
 use Rattle.directory.specs.Operation.{Lead, leads, orient, orientation, operational}
 use Rattle.directory.specs.Sections.{composition, operationalSections, leadingEnd, status}
-use Rattle.directory.specs.Composing.{composedInto}
+use Rattle.directory.specs.Composing.{Outcome, composedInto}
 use Rattle.directory.specs.Composing.Outcome.{written}
 use Rattle.directory.specs.Part.{leadingPart}
-use Rattle.directory.specs.Law.{IsFleet, Side, facts, answer, Formed, Led, SameFacts, SameClaims, SameList, SameFormation, TurnedFormation, SaySame, SameLead, SameUnled, OnlyTurned, Alike, SideLaws, Joint, Law}
+use Rattle.directory.specs.Law.{IsFleet, Side, facts, answer, Formed, Led, SameFacts, SameClaims, SameList, SameFormation, TurnedFormation, SaySame, SameLead, SameUnled, OnlyTurned, Alike, SideLaws, Joint}
 use Rattle.directory.proofs.Vocabulary.{Known}
 use Rattle.directory.proofs.Kept.{run-keeps, claims-same, some-formed, leads-some, leads-all}
 use Rattle.directory.proofs.Turns.{length-turned}
@@ -105,7 +104,7 @@ module _ (s : Side) where
   says : (b : List ℕ) → answer s ≡ written b → (composition (facts s) (s .fleet) ≡ b) × (refuses (facts s) (s .fleet) (s .room) ≡ None)
   says b p = written-is (refuses (facts s) (s .fleet) (s .room)) (composition (facts s) (s .fleet)) b p
 
-  pub reads : IsFleet (s .fleet) → SideLaws s
+  pub reads : IsFleet (s .fleet) → SideLaws s (answer s)
   reads m =
       record {
         stand = stands (s .run);
@@ -176,14 +175,14 @@ module _ (l r : Side) where
   formations-told h (inr e) = inr (formed-is r (turnedList turnedCoupled (facts l .formation)) (e (facts l .formation) .0 (is-formed l (facts l .formation) refl h)) .0)
 
   -- equal leading ends, from the facts to the bytes
-  pub led-back : (b c : List ℕ) → SideLaws l → SideLaws r → answer l ≡ written b → answer r ≡ written c → Led l → SameLead l r → leadingPart b ≡ leadingPart c
+  pub led-back : (b c : List ℕ) → SideLaws l (answer l) → SideLaws r (answer r) → answer l ≡ written b → answer r ≡ written c → Led l → SameLead l r → leadingPart b ≡ leadingPart c
   led-back b c rl rr p q led h =
       let f = led-formed l led in
       let first : leadingEnd (facts l) (l .fleet) ≡ leadingEnd (facts l) (r .fleet) =
       simp (train-vehicles (l .fleet) (r .fleet) (facts l .claims) (facts l .formation) (h .vehicles (facts l .formation) (is-formed l (facts l .formation) refl f))) in
       rl .part b p ∙ first ∙ ends-alike led (says l b p .1) (claims-told (h .claims)) (list-told (h .confirmed)) (formations-told f (h .formations)) ∙ sym (rr .part c q)
 
-  pub unled-back : (b c : List ℕ) → SideLaws l → SideLaws r → answer l ≡ written b → answer r ≡ written c → SameUnled l r → leadingPart b ≡ leadingPart c
+  pub unled-back : (b c : List ℕ) → SideLaws l (answer l) → SideLaws r (answer r) → answer l ≡ written b → answer r ≡ written c → SameUnled l r → leadingPart b ≡ leadingPart c
   unled-back b c rl rr p q h =
       let f = passed (facts l) (l .fleet) (l .room) (says l b p .1) .formed in
       let first : leadingEnd (facts l) (l .fleet) ≡ leadingEnd (facts l) (r .fleet) =
@@ -240,17 +239,29 @@ module _ (l r : Side) (ml : IsFleet (l .fleet)) (mr : IsFleet (r .fleet)) (b c :
       let same : facts l .formation ≡ facts r .formation = ap (λ z. met turnedCoupled z (facts l .formation)) (sym o) ∙ w .4 ∙ ap (λ z. met turnedCoupled z (facts r .formation)) u in
       record { claims = same-claims l r (w .0); confirmed = same-list l r (w .1); vehicles = on-formed l _ (w .2); formation = same-formation l r (sym same) }
 
-pub joint : (l r : Side) → IsFleet (l .fleet) → IsFleet (r .fleet) → Joint l r
+-- claims are the same, so a claim stands on both sides or on none
+led-here : (l r : Side) → SameClaims l r → Led l ⊎ Led r → Led l
+led-here l r same (inl h) = h
+led-here l r same (inr h) = (h .0, h .1, same (h .0) (h .1) .1 (h .2))
+
+unled-here : (l r : Side) → SameClaims l r → (Led l → ⊥) ⊎ (Led r → ⊥) → Led l → ⊥
+unled-here l r same (inl h) led = h led
+unled-here l r same (inr h) led = h (led .0, led .1, same (led .0) (led .1) .0 (led .2))
+
+pub joint : (l r : Side) → IsFleet (l .fleet) → IsFleet (r .fleet) → Joint l r (answer l) (answer r)
 joint l r ml mr =
     record {
       left = reads l ml;
       right = reads r mr;
       same = λ b c p q. (same-forth l r ml mr b c p q, same-back l r b c p q);
-      led = λ b c p q x y. (led-forth l r ml mr b c p q, led-back l r b c (reads l ml) (reads r mr) p q x);
-      unled = λ b c p q h. (unled-forth l r ml mr b c p q h, unled-back l r b c (reads l ml) (reads r mr) p q);
+      led = λ b c p q w. (led-forth l r ml mr b c p q, λ h. led-back l r b c (reads l ml) (reads r mr) p q (led-here l r (h .claims) w) h);
+      unled = λ b c p q w. (
+        λ e. unled-forth l r ml mr b c p q (unled-here l r (led-forth l r ml mr b c p q e .claims) w) e,
+        unled-back l r b c (reads l ml) (reads r mr) p q,
+      );
       turns = turns l r;
     }
 
--- of any two runs
-pub law : (m n : Meaning) → IsFleet m → IsFleet n → Law m n
-law m n ml mr left right i j = joint (record { run = left; fleet = m; room = i }) (record { run = right; fleet = n; room = j }) ml mr
+-- the same of outcomes that are theirs
+pub joint-of : (l r : Side) (x y : Outcome) → IsFleet (l .fleet) → IsFleet (r .fleet) → x ≡ answer l → y ≡ answer r → Joint l r x y
+joint-of l r x y ml mr p q = subst (λ z. Joint l r z y) (sym p) (subst (λ z. Joint l r (answer l) z) (sym q) (joint l r ml mr))

@@ -100,33 +100,30 @@ pub record OnlyTurned (l r : Side) : Type 0 where
   pub fleets : SaySame l r
   pub rooms : l .room ≡ r .room
 
--- what one side says
-pub record SideLaws (s : Side) : Type 0 where
+-- what one side says whose outcome is o
+pub record SideLaws (s : Side) (o : Outcome) : Type 0 where
   -- the facts are those that stand
   pub stand : Shows (facts s) (s .run)
   -- a next call is accepted where its arguments are in order and what stands lets it be
   pub taken : AcceptedAsTold (s .run)
   -- the orientation is direct without a claim, else the claim's direction composed with its consist's facing
   pub direct : (Led s → ⊥) → orientation (facts s) ≡ Direct
-  pub oriented : (b : List ℕ) → answer s ≡ written b → (x : Identity) (c : Claim) (es : List Coupled) → Stands (s .run) (claimed x c) → Formed s es
+  pub oriented : (b : List ℕ) → o ≡ written b → (x : Identity) (c : Claim) (es : List Coupled) → Stands (s .run) (claimed x c) → Formed s es
       → All (λ e. e .identity ≡ x → orientation (facts s) ≡ composed (c .direction) (e .facing)) es
   -- the order from the head is the one that the rule tells
   pub order : fromHead (facts s) (s .fleet) ≡ told (facts s) (s .fleet)
   -- the leading-end part of what is written is what the facts define
-  pub part : (b : List ℕ) → answer s ≡ written b → leadingPart b ≡ leadingEnd (facts s) (s .fleet)
+  pub part : (b : List ℕ) → o ≡ written b → leadingPart b ≡ leadingEnd (facts s) (s .fleet)
 
-pub record Joint (l r : Side) : Type 0 where
-  pub left : SideLaws l
-  pub right : SideLaws r
+-- of two sides, their outcomes x and y
+pub record Joint (l r : Side) (x y : Outcome) : Type 0 where
+  pub left : SideLaws l x
+  pub right : SideLaws r y
   -- equal compositions: the same facts, and fleets that say the same
-  pub same : (b c : List ℕ) → answer l ≡ written b → answer r ≡ written c → (b ≡ c) ↔ (SameFacts l r × SaySame l r)
-  -- equal leading-end parts under a claim: the same train, whichever way it is formed
-  pub led : (b c : List ℕ) → answer l ≡ written b → answer r ≡ written c → Led l → Led r → (leadingPart b ≡ leadingPart c) ↔ SameLead l r
-  -- equal leading-end parts under no claim: the same train, formed the same way
-  pub unled : (b c : List ℕ) → answer l ≡ written b → answer r ≡ written c → (Led l → ⊥) → (leadingPart b ≡ leadingPart c) ↔ SameUnled l r
+  pub same : (b c : List ℕ) → x ≡ written b → y ≡ written c → (b ≡ c) ↔ (SameFacts l r × SaySame l r)
+  -- equal leading-end parts where a claim stands: the same train, whichever way it is formed
+  pub led : (b c : List ℕ) → x ≡ written b → y ≡ written c → Led l ⊎ Led r → (leadingPart b ≡ leadingPart c) ↔ SameLead l r
+  -- equal leading-end parts where none stands on a side: the same train, formed the same way
+  pub unled : (b c : List ℕ) → x ≡ written b → y ≡ written c → (Led l → ⊥) ⊎ (Led r → ⊥) → (leadingPart b ≡ leadingPart c) ↔ SameUnled l r
   -- a turned formation composes, or is refused, alike
-  pub turns : OnlyTurned l r → Led l → Alike (answer l) (answer r)
-
--- of any two runs on new benches, with these fleets and any room
-abbrev pub Law : Meaning → Meaning → Type 0
-Law m n = (left right : List Call) (i j : ℕ) → Joint (record { run = left; fleet = m; room = i }) (record { run = right; fleet = n; room = j })
+  pub turns : OnlyTurned l r → Led l → Alike x y

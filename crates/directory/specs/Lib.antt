@@ -9,3 +9,4 @@ pub mod Steps
 pub mod Whole
 pub mod Written
 pub mod Law
+pub mod Compared
