@@ -8,3 +8,5 @@ pub mod Part
 pub mod Steps
 pub mod Whole
 pub mod Written
+pub mod Law
+pub mod Compared

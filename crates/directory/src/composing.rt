@@ -188,7 +188,7 @@ fn write_composition<F: Fleet>(
 }
 
 /// Composes the bench's facts over a fleet, and answers the length written.
-pub(crate) fn compose<F: Fleet>(bench: &Bench, fleet: &F, out: &mut [u8]) -> Result<usize, Refusal>
+pub fn compose<F: Fleet>(bench: &Bench, fleet: &F, out: &mut [u8]) -> Result<usize, Refusal>
     ensures answer { λ r. ⌜ refusalOf r ≡ refusal Composing (checksOf (shown (now (bench .entry))) (F·Meant .meaning (now (fleet .entry))) (length (now (out .entry)))) ⌝ }
     ensures wrote { λ r. ⌜ ByOk r (λ n. Written (composition (shown (now (bench .entry))) (F·Meant .meaning (now (fleet .entry)))) (now (out .entry)) n (now (out .exit))) (λ _. now (out .exit) ≡ now (out .entry)) ⌝ }
 {

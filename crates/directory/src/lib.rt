@@ -1,7 +1,8 @@
 // The train directory and the operational train directory of a coupled train.
 pub mod cars;
 mod checks;
-mod composing;
+pub mod comparing;
+pub mod composing;
 mod loading;
 mod orders;
 mod rows;
