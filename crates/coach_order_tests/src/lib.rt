@@ -1,4 +1,6 @@
 // Pages of small fleet lists, asymmetric on purpose, and of lists at the limits.
+#![tactic(auto)]
+
 #[cfg(test)]
 mod tests {
     use coach_order::page::{MOST, page};

@@ -1,4 +1,6 @@
 // The console: plays a script of calls from standard input, and answers each with a line.
+#![tactic(auto)]
+
 mod answers;
 mod command;
 mod desk;

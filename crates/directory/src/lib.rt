@@ -1,4 +1,6 @@
 // The train directory and the operational train directory of a coupled train.
+#![tactic(auto)]
+
 pub mod cars;
 mod checks;
 pub mod comparing;

@@ -1,4 +1,6 @@
 // Compositions of small trains, their rows written out by hand from the rules.
+#![tactic(auto)]
+
 #[cfg(test)]
 mod edges;
 #[cfg(test)]

@@ -1,4 +1,6 @@
 // Fleets: what every source of consists answers, the book over lent bytes, and the roster.
+#![tactic(auto)]
+
 pub mod book;
 mod checks;
 mod parts;

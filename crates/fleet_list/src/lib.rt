@@ -1,4 +1,6 @@
 // Fleet lists: a fleet as text, a line for each consist.
+#![tactic(auto)]
+
 mod book_reader;
 mod book_writer;
 mod checks;

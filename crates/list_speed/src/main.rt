@@ -1,5 +1,7 @@
 // Prints how long the book of the list in the input is, and the list of that book, and on the second stream
 // how many microseconds 200 imports and 200 exports took.
+#![tactic(auto)]
+
 use fleet_list::export::export_book;
 use fleet_list::import::import_list;
 use std::io;

@@ -1,6 +1,8 @@
 // Opens the book of the list in the input, asks it for every vehicle, and composes its consists, each direct and the
 // last one leading from its last vehicle, without and with a confirmed list. Prints what came of it, and on the second
 // stream how many nanoseconds each took, for one book or one train.
+#![tactic(auto)]
+
 use bench::state::Bench;
 use directory::composing::compose;
 use fleet::book::Book;

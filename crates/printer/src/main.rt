@@ -1,4 +1,6 @@
 // The printer: reads a fleet list from standard input, and prints the coach order of all its consists.
+#![tactic(auto)]
+
 use coach_order::page::{MOST, page};
 use std::io;
 use std::io::{Read, Write};

@@ -1,4 +1,6 @@
 // SC-32, a 32-bit checksum of a byte string from a seed, four bytes at a time.
+#![tactic(auto)]
+
 ghost use Rattle.std.specs.Prelude.{◌≡◌, ◌%◌, [], ◌∷◌, ◌++◌, length};
 ghost use Rattle.sc32.specs.Checksum.{checksum};
 

@@ -1,4 +1,6 @@
 // Prints the checksum of the input from seed 0, and on the second stream how many microseconds it took.
+#![tactic(auto)]
+
 use std::io;
 use std::io::Read;
 use std::time::Instant;

@@ -1,4 +1,6 @@
 // Tests of sc32: published values, and a second implementation, bit by bit.
+#![tactic(auto)]
+
 #[cfg(test)]
 mod generated;
 #[cfg(test)]

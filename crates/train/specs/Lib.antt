@@ -1,4 +1,5 @@
 pub mod Octets
+pub mod Ranks
 pub mod Facings
 pub mod Identities
 pub mod Names

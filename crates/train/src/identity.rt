@@ -3,10 +3,11 @@ ghost use Rattle.std.specs.Prelude.{◌≡◌, Some, refl};
 ghost use Rattle.std.specs.Str.{bytes_eq};
 ghost use Rattle.train.specs.Identities.{is_identity};
 ghost use Rattle.train.specs.Octets.{ranked, zeros};
+ghost use Rattle.train.specs.Ranks.{ranked_total, ranked_ties};
 ghost use Rattle.std.specs.Cmp.Rules.{comparing};
 ghost use Rattle.std.proofs.Common.{rules};
 ghost use Rattle.std.specs.Cmp as Keys;
-ghost use Rattle.std.specs.Cmp.{partial_order_from_agreeing_total};
+ghost use Rattle.std.specs.Cmp.{partial_order_from_agreeing_total, on_total};
 
 use crate::octets;
 use std::cmp::Ordering;
@@ -57,7 +58,7 @@ impl Eq for Identity {
 impl PartialOrd for Identity {
     ghost partial_cmp = { λ a b. Some (ranked a.bytes b.bytes) };
 
-    ghost laws = { partial_order_from_agreeing_total (λ a b. ranked a.bytes b.bytes) (Prim.search (comparing, rules)) (λ _ _. refl) (Prim.search (comparing, rules)) };
+    ghost laws = { partial_order_from_agreeing_total (λ a b. ranked a.bytes b.bytes) (on_total (λ x. x.bytes) ranked_total) (λ _ _. refl) (λ x y. ranked_ties x.bytes y.bytes) };
 
     fn partial_cmp(&self, other: &Identity) -> Option<Ordering> {
         Some(octets::rank(&self.bytes, &other.bytes))

@@ -1,4 +1,6 @@
 // The words of the subject: identities, names, facings, entries along a train, refusals, and turning.
+#![tactic(auto)]
+
 pub mod checks;
 pub mod entries;
 pub mod facing;

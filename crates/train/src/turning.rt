@@ -43,7 +43,7 @@ impl Turn for Vehicle {
 
 /// Turns a list in place: its order is reversed, and each entry turned.
 pub fn turn_all<T: Turn + Copy>(entries: &mut [T])
-    ensures { entries.new ≡ turned_list turned entries.old }
+    ensures { entries.new ≡ turned_list T.turned entries.old }
 {
     entries.reverse();
     for x in entries.iter_mut() {

@@ -1,4 +1,6 @@
 // Worked examples of the words, asymmetric on purpose.
+#![tactic(auto)]
+
 #[cfg(test)]
 mod tests {
     use train::checks::{facings_known, labels_apart, names_well_formed};

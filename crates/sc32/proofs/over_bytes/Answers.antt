@@ -12,7 +12,7 @@ pub loop-byte-preserved : goal.loop-byte-preserved
 loop-byte-preserved c =
     let xs = c.args.bytes.now in
     let i = c.loop-byte.byte-index in
-    c.byte-step-register.ensures ∙ ap (λ (r : ℕ). byte_step r (get_or xs i 0)) c.loop-byte.invariant ∙ sym (one_more c.args.seed xs i (omega arith))
+    c.byte_step-register.ensures ∙ ap (λ (r : ℕ). byte_step r (get_or xs i 0)) c.loop-byte.invariant ∙ sym (one_more c.args.seed xs i (omega arith))
 
 pub returns : goal.returns
 returns c =

@@ -9,7 +9,7 @@ loop-at-preserved c =
     let i = c.loop-at.at in (
       omega arith,
       omega arith,
-      ap (λ (r : ℕ). checksum r (drop (i + 4) xs)) c.four-step-register.ensures ∙ sym (four_on c.loop-at.register xs i (omega arith)) ∙ c.loop-at.invariant.2,
+      ap (λ (r : ℕ). checksum r (drop (i + 4) xs)) c.four_step-register.ensures ∙ sym (four_on c.loop-at.register xs i (omega arith)) ∙ c.loop-at.invariant.2,
     )
 
 pub returns : goal.returns

@@ -6,10 +6,10 @@ use Rattle.sc32.proofs.sc32.Goals as goal
 pub returns : goal.returns
 returns c =
     let seed = c.args.seed in
-    let words = c.split-at.result.0.now in
-    let rest = c.split-at.result.1.now in
+    let words = c.split_at.result.0.now in
+    let rest = c.split_at.result.1.now in
     record {
       value =
-          c.over-bytes.ensures ∙ ap (λ (r : ℕ). checksum r rest) c.over-words.ensures
-          ∙ sym (two_parts seed words rest) ∙ ap (checksum seed) (sym c.split-at.ensures.by_index.0);
+          c.over_bytes.ensures ∙ ap (λ (r : ℕ). checksum r rest) c.over_words.ensures
+          ∙ sym (two_parts seed words rest) ∙ ap (checksum seed) (sym c.split_at.ensures.by_index.0);
     }

@@ -17,7 +17,7 @@ all_done : (f : Facts) (calls : List Lent) (i : ℕ) → length calls ≤ i → 
 all_done f calls i h = rw drop_all
 
 pub loop-call-preserved : goal.loop-call-preserved
-loop-call-preserved c = c.loop-call.invariant ∙ one_more _ _ _ _ _ c.loop-call-test.true c.carry-out.ensures.facts
+loop-call-preserved c = c.loop-call.invariant ∙ one_more _ _ _ _ _ c.loop-call-test.true c.carry_out.ensures.facts
 
 pub returns : goal.returns
 returns c =

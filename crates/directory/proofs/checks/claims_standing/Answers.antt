@@ -7,9 +7,9 @@ use Rattle.directory.proofs.checks.claims_standing.Goals as goal
 
 pub loop-entry-preserved : goal.loop-entry-preserved
 loop-entry-preserved c = (
-  omega (arith, c.loop-entry.invariant.0, c.number-of-count.ensures.few),
-  counted_more (shown c.args.bench.now).claims c.formation-formation.result.now c.loop-entry.entry-index _ c.claim-of.result c.claim-of.ensures c.loop-entry-test.true
-      c.loop-entry.count c.number-of-count.result _ c.number-of-count.ensures.value c.loop-entry.invariant.1,
+  omega (arith, c.loop-entry.invariant.0, c.number_of-count.ensures.few),
+  counted_more (shown c.args.bench.now).claims c.formation-formation.result.now c.loop-entry.entry-index _ c.claim_of.result c.claim_of.ensures c.loop-entry-test.true
+      c.loop-entry.count c.number_of-count.result _ c.number_of-count.ensures.value c.loop-entry.invariant.1,
 )
 
 pub returns : goal.returns

@@ -14,5 +14,5 @@ returns g c =
     let e = c.play.ensures.facts ∙ ap (λ f. after_all f (run c.args.calls.now)) c.new-bench.ensures in
     record {
       answered = answered s _ c.compose.result c.args.out.now _ e refl c.compose.ensures.answer c.compose.ensures.wrote;
-      led = led_decides s c.claims-standing.result (c.claims-standing.ensures ∙ ap (λ f. length (leads f.claims f.formation)) e);
+      led = led_decides s c.claims_standing.result (c.claims_standing.ensures ∙ ap (λ f. length (leads f.claims f.formation)) e);
     }

@@ -28,14 +28,14 @@ answered ns all head cars a b o e ea first ec eb last =
     one None = refl
     one (Some r) = refl
 
-pub returns-in-err-require-2 : goal.returns-in-err-require-2
-returns-in-err-require-2 c =
-    let p = err_from_is_err_and c.from-residual-in-err-require-2.result c.from-residual-in-err-require-2.ensures.1 in
+pub returns-in_err-require-2 : goal.returns-in_err-require-2
+returns-in_err-require-2 c =
+    let p = err_from_is_err_and c.from_residual-in_err-require-2.result c.from_residual-in_err-require-2.ensures.1 in
     record {
       answer =
           ap refusal_of p.1 ∙ ap Some p.2
-          ∙ answered c.confirmed-confirmed.result.now _ c.args.head.now _ _ _ _ c.confirmed-confirmed.ensures.value c.in-order.ensures c.in-ok-require.ensures
-          (front c.order-by-length.ensures) c.is-parted.ensures c.in-err-require-2.ensures;
+          ∙ answered c.confirmed-confirmed.result.now _ c.args.head.now _ _ _ _ c.confirmed-confirmed.ensures.value c.in_order.ensures c.in_ok-require.ensures
+          (front c.order_by-length.ensures) c.is_parted.ensures c.in_err-require-2.ensures;
       laid = rw p.1 tt;
     }
 
@@ -43,7 +43,7 @@ pub returns : goal.returns
 returns c =
     record {
       answer =
-          answered c.confirmed-confirmed.result.now _ c.args.head.now _ _ _ _ c.confirmed-confirmed.ensures.value c.in-order.ensures c.in-ok-require.ensures
-          (front c.order-by-length.ensures) c.is-parted.ensures c.in-ok-require-2.ensures;
-      laid = same_text (ap (λ z. ordered z c.args.head.now) c.confirmed-confirmed.ensures.value) c.order-by-length.ensures;
+          answered c.confirmed-confirmed.result.now _ c.args.head.now _ _ _ _ c.confirmed-confirmed.ensures.value c.in_order.ensures c.in_ok-require.ensures
+          (front c.order_by-length.ensures) c.is_parted.ensures c.in_ok-require-2.ensures;
+      laid = same_text (ap (λ z. ordered z c.args.head.now) c.confirmed-confirmed.ensures.value) c.order_by-length.ensures;
     }

@@ -10,4 +10,4 @@ pub returns-in-Inverse : goal.returns-in-Inverse
 returns-in-Inverse c =
     let train = c.args.train.now in
     same_text (ap (λ o. met turned_car o train) c.in-Inverse.ensures)
-    (turned_front train c.args.head.now _ _ _ (copied train c.args.head.now _ c.copy-from-slice.ensures.after c.requires) c.turn-all.ensures)
+    (turned_front train c.args.head.now _ _ _ (copied train c.args.head.now _ c.copy_from_slice.ensures.after c.requires) c.turn_all.ensures)

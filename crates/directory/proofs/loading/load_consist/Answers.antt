@@ -21,8 +21,8 @@ returns-in-None g c =
 pub loop-k-preserved : goal.loop-k-preserved
 loop-k-preserved g c =
     let o = g.F.Meant.meaning c.args.fleet.now c.args.identity.now in
-    loading_more c.args.identity.now c.args.claim (vehicles_of o) c.loop-k.k c.args.cars.now c.loop-k.cars c.in-Some.vehicle c.lead-mark.result
-    c.loop-k.invariant c.requires (sym (asked o c.loop-k.k) ∙ sym c.in-Some.ensures) c.lead-mark.ensures
+    loading_more c.args.identity.now c.args.claim (vehicles_of o) c.loop-k.k c.args.cars.now c.loop-k.cars c.in-Some.vehicle c.lead_mark.result
+    c.loop-k.invariant c.requires (sym (asked o c.loop-k.k) ∙ sym c.in-Some.ensures) c.lead_mark.ensures
 
 pub returns : goal.returns
 returns g c =

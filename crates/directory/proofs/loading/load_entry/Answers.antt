@@ -13,5 +13,5 @@ returns-in-Inverse g c =
     let m = g.F.Meant.meaning c.args.fleet.now in
     let e = c.args.entry.now in
     let claims = (shown c.args.bench.now).claims in
-    same_text (ap (λ o. turned_list turned_car (cars e.identity o 1 (vehicles_of (m e.identity)))) c.claim-of-claim.ensures ∙ met_inverse m claims e c.in-Inverse.is)
-    (turned_front _ _ _ _ _ c.load-consist-count.ensures c.turn-all.ensures)
+    same_text (ap (λ o. turned_list turned_car (cars e.identity o 1 (vehicles_of (m e.identity)))) c.claim_of-claim.ensures ∙ met_inverse m claims e c.in-Inverse.is)
+    (turned_front _ _ _ _ _ c.load_consist-count.ensures c.turn_all.ensures)

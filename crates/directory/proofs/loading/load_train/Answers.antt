@@ -9,18 +9,18 @@ use Rattle.directory.proofs.loading.load_train.Goals as goal
 pub loop-entry-init : goal.loop-entry-init
 loop-entry-init g c = nothing_yet _
 
-pub offset-bounds-cars-at : goal.offset-bounds-cars-at
-offset-bounds-cars-at g c = omega (arith, c.loop-entry.invariant.fits, c.requires.few)
+pub offset_bounds-cars-at : goal.offset_bounds-cars-at
+offset_bounds-cars-at g c = omega (arith, c.loop-entry.invariant.fits, c.requires.few)
 
-pub load-entry-at-requires : goal.load-entry-at-requires
-load-entry-at-requires g c =
+pub load_entry-at-requires : goal.load_entry-at-requires
+load_entry-at-requires g c =
     entry_room (g.F.Meant.meaning c.args.fleet.now) (shown c.args.bench.now).claims c.formation-formation.result.now _ c.loop-entry.entry-index _
     c.args.cars.now c.loop-entry.cars c.loop-entry.at _ c.loop-entry.invariant c.formation-formation.ensures.value c.requires.room c.loop-entry-test.true refl
 
 pub loop-entry-preserved : goal.loop-entry-preserved
 loop-entry-preserved g c =
     same_text (train_more (g.F.Meant.meaning c.args.fleet.now) (shown c.args.bench.now).claims c.formation-formation.result.now c.loop-entry.entry-index _ c.loop-entry-test.true)
-    (lend c.loop-entry.invariant c.load-entry-at.ensures refl)
+    (lend c.loop-entry.invariant c.load_entry-at.ensures refl)
 
 pub returns : goal.returns
 returns g c =

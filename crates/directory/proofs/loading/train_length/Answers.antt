@@ -6,9 +6,9 @@ use Rattle.directory.proofs.loading.train_length.Goals as goal
 
 pub loop-entry-preserved : goal.loop-entry-preserved
 loop-entry-preserved g c = (
-  omega (arith, c.loop-entry.invariant.0, c.count-of-total.ensures.few),
-  λ claims. length_more (g.F.Meant.meaning c.args.fleet.now) claims c.args.formation.now c.loop-entry.entry-index _ _ c.count-of-total.result c.loop-entry.total refl
-      c.loop-entry-test.true c.count-of-total.ensures.value (c.loop-entry.invariant.1 claims),
+  omega (arith, c.loop-entry.invariant.0, c.count_of-total.ensures.few),
+  λ claims. length_more (g.F.Meant.meaning c.args.fleet.now) claims c.args.formation.now c.loop-entry.entry-index _ _ c.count_of-total.result c.loop-entry.total refl
+      c.loop-entry-test.true c.count_of-total.ensures.value (c.loop-entry.invariant.1 claims),
 )
 
 pub returns : goal.returns

@@ -10,14 +10,14 @@ use Rattle.directory.specs.Cars.{no_car}
 use Rattle.directory.proofs.Walks.{shared_at, unshared}
 use Rattle.directory.proofs.orders.names_apart.Goals as goal
 
-pub returns-then-stands-among : goal.returns-then-stands-among
-returns-then-stands-among c =
+pub returns-then-stands_among : goal.returns-then-stands_among
+returns-then-stands_among c =
     let cs = c.args.train.now in
     let i = c.loop-i.i in
     let here = ap (breach Composing) c.loop-i.invariant
     ∙ each_here fresh_name SharedName cs i Composing (get_or cs i no_car) no_car refl c.loop-i-test.true
-    (fresh_told (by bytes_eq (λ d. d.name.bytes)) cs i (get_or cs i no_car) true c.if-stands-among.ensures) in
-    ap Some c.at.ensures ∙ sym (shared_at c.args.formation.now cs i c.consist-number-number.result _ c.loop-i-test.true here c.consist-number-number.ensures.value)
+    (fresh_told (by bytes_eq (λ d. d.name.bytes)) cs i (get_or cs i no_car) true c.if-stands_among.ensures) in
+    ap Some c.at.ensures ∙ sym (shared_at c.args.formation.now cs i c.consist_number-number.result _ c.loop-i-test.true here c.consist_number-number.ensures.value)
 
 pub loop-i-preserved : goal.loop-i-preserved
 loop-i-preserved c =
@@ -25,7 +25,7 @@ loop-i-preserved c =
     let i = c.loop-i.i in
     c.loop-i.invariant
     ∙ each_past fresh_name SharedName cs i (get_or cs i no_car) no_car refl c.loop-i-test.true
-    (fresh_told (by bytes_eq (λ d. d.name.bytes)) cs i (get_or cs i no_car) false c.if-stands-among.ensures)
+    (fresh_told (by bytes_eq (λ d. d.name.bytes)) cs i (get_or cs i no_car) false c.if-stands_among.ensures)
 
 pub returns : goal.returns
 returns c =

@@ -12,7 +12,7 @@ loop-car-preserved-then-same c =
 
 pub loop-car-preserved : goal.loop-car-preserved
 loop-car-preserved c =
-    collecting_more (consist_row_of c.args.formation.now) c.args.cars.now c.loop-car.invariant _ c.loop-car-test.true _ c.if-same.ensures c.consist-row.ensures c.requires.room
+    collecting_more (consist_row_of c.args.formation.now) c.args.cars.now c.loop-car.invariant _ c.loop-car-test.true _ c.if-same.ensures c.consist_row.ensures c.requires.room
 
 pub returns : goal.returns
 returns c = collecting_all (consist_row_of c.args.formation.now) c.args.cars.now c.loop-car.invariant c.loop-car-test.false

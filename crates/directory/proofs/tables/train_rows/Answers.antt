@@ -6,7 +6,7 @@ use Rattle.directory.proofs.tables.train_rows.Goals as goal
 pub loop-i-preserved : goal.loop-i-preserved
 loop-i-preserved g c =
     filled_more (train_row_of (g.F.Meant.meaning c.args.fleet.now)) c.args.formation.now c.args.table.now c.loop-i.i c.loop-i.table _ _ c.loop-i.invariant c.loop-i-test.true c.requires
-    (filled_entry_row (g.F.Meant.meaning c.args.fleet.now) _ _ c.counter-of.ensures)
+    (filled_entry_row (g.F.Meant.meaning c.args.fleet.now) _ _ c.counter_of.ensures)
 
 pub returns : goal.returns
 returns g c =

@@ -8,8 +8,8 @@ loop-i-init c = seating_none (vehicle_row_of c.args.train.now) c.args.cars.now _
 
 pub loop-i-preserved : goal.loop-i-preserved
 loop-i-preserved c =
-    seating_more (vehicle_row_of c.args.train.now) c.args.cars.now c.loop-i.invariant _ c.run-of-run.result _ c.loop-i-test.true
-    c.run-of-run.ensures.value c.run-of-run.ensures.few c.vehicle-row.ensures c.requires.room
+    seating_more (vehicle_row_of c.args.train.now) c.args.cars.now c.loop-i.invariant _ c.run_of-run.result _ c.loop-i-test.true
+    c.run_of-run.ensures.value c.run_of-run.ensures.few c.vehicle_row.ensures c.requires.room
 
 pub returns : goal.returns
 returns c = seating_all (vehicle_row_of c.args.train.now) c.args.cars.now c.loop-i.invariant c.loop-i-test.false (omega arith)

@@ -6,9 +6,9 @@ use Rattle.directory.proofs.writing.write_sections.Goals as goal
 
 pub returns : goal.returns
 returns c =
-    let one = c.write-section-train.ensures in
-    let two = c.write-section-at.ensures in
-    let three = c.write-section-at-2.ensures in
+    let one = c.write_section-train.ensures in
+    let two = c.write_section-at.ensures in
+    let three = c.write_section-at-2.ensures in
     record {
       wrote =
           same_text (append_assoc (section train_row c.args.trains.now) (section consist_row c.args.consists.now) (section vehicle_row c.args.vehicles.now))

@@ -6,11 +6,11 @@ use Rattle.directory.proofs.writing.write_whole.Goals as goal
 
 pub returns : goal.returns
 returns c =
-    let told = c.write-sections-lengths.ensures in
+    let told = c.write_sections-lengths.ensures in
     record {
       wrote =
-          whole_written c.args.out.now c.write-sections-lengths.new.out (section train_row c.args.trains.now) (section consist_row c.args.consists.now ++ section vehicle_row c.args.vehicles.now)
-          _ c.write-sections-lengths.result.train c.write-sections-lengths.result.all refl (omega (arith, c.requires.room)) told.wrote told.first told.inside
-          c.args.head c.sc32-train-counter.result c.sc32-operational-counter.result _ c.sc32-train-counter.ensures.value c.sc32-operational-counter.ensures.value c.write-header.ensures;
+          whole_written c.args.out.now c.write_sections-lengths.new.out (section train_row c.args.trains.now) (section consist_row c.args.consists.now ++ section vehicle_row c.args.vehicles.now)
+          _ c.write_sections-lengths.result.train c.write_sections-lengths.result.all refl (omega (arith, c.requires.room)) told.wrote told.first told.inside
+          c.args.head c.sc32-train_counter.result c.sc32-operational_counter.result _ c.sc32-train_counter.ensures.value c.sc32-operational_counter.ensures.value c.write_header.ensures;
       sum = omega (arith, told.sum);
     }

@@ -7,9 +7,9 @@ use Rattle.fleet.proofs.parts.cut.Goals as goal
 pub returns-then-total-gt2000 : goal.returns-then-total-gt2000
 returns-then-total-gt2000 c =
     let bs = c.args.bytes.now in
-    let tail = c.split-at.result.1.now in
+    let tail = c.split_at.result.1.now in
     let t = take_rest bs 4 in
-    let e : tail ≡ tail_of bs = c.split-at.ensures.back ∙ ap (drop (count_of bs * 21)) t in
+    let e : tail ≡ tail_of bs = c.split_at.ensures.back ∙ ap (drop (count_of bs * 21)) t in
     let u : take (length tail - 2) (drop 2 tail) ≡ table_of bs = take_rest tail 2 ∙ ap (drop 2) e in
     let s = ap length t in
     let w = ap length u in
@@ -27,9 +27,9 @@ returns-then-total-gt2000 c =
 pub returns : goal.returns
 returns c =
     let bs = c.args.bytes.now in
-    let tail = c.split-at.result.1.now in
+    let tail = c.split_at.result.1.now in
     let t = take_rest bs 4 in
-    let e : tail ≡ tail_of bs = c.split-at.ensures.back ∙ ap (drop (count_of bs * 21)) t in
+    let e : tail ≡ tail_of bs = c.split_at.ensures.back ∙ ap (drop (count_of bs * 21)) t in
     let u : take (length tail - 2) (drop 2 tail) ≡ table_of bs = take_rest tail 2 ∙ ap (drop 2) e in
     let s = ap length t in
     let w = ap length u in
@@ -40,7 +40,7 @@ returns c =
     let z : get_or tail 1 0 ≡ get_or (tail_of bs) 1 0 = ap (λ (y : List ℕ). get_or y 1 0) e in
     let l : 4 ≤ length bs = omega (arith, ltb-false) in
     let h : Head bs = record { four = l; one = omega arith; none = omega arith; few = omega arith; reach = omega arith } in
-    let f : c.split-at.result.0.now ≡ entries_of bs = c.split-at.ensures.front ∙ ap (take (count_of bs * 21)) t in
+    let f : c.split_at.result.0.now ≡ entries_of bs = c.split_at.ensures.front ∙ ap (take (count_of bs * 21)) t in
     let i : total_of bs ≤ 2000 = omega arith in
     let j : length bs ≡ 6 + 21 * count_of bs + 17 * total_of bs = omega arith in
     record {

@@ -14,39 +14,39 @@ use Rattle.fleet_list.proofs.book_writer.put_book.Goals as goal
 sized : (hs : List Head) (vs : List Vehicle) (room : ℕ) → counts hs ≡ length vs → length (book_of (gathered hs vs)) ≤ room → 6 + length (flat_map head_row hs) + length (flat_map vehicle_row vs) ≤ room
 sized hs vs room e l = omega (arith, ap length (book_parts hs vs e), parts_long hs vs)
 
-pub put-version-at-requires : goal.put-version-at-requires
-put-version-at-requires c = let l = sized c.args.heads.now c.args.vehicles.now _ c.requires.sums c.requires.room in omega arith
+pub put_version-at-requires : goal.put_version-at-requires
+put_version-at-requires c = let l = sized c.args.heads.now c.args.vehicles.now _ c.requires.sums c.requires.room in omega arith
 
-pub put-count-at-requires : goal.put-count-at-requires
-put-count-at-requires c =
+pub put_count-at-requires : goal.put_count-at-requires
+put_count-at-requires c =
     let l = sized c.args.heads.now c.args.vehicles.now _ c.requires.sums c.requires.room in
-    let a = c.put-version-at.ensures in
-    record { room = tail_room _ c.put-version-at.result _ (omega (arith, a.long, same_length a)); small = c.requires.small.0 }
+    let a = c.put_version-at.ensures in
+    record { room = tail_room _ c.put_version-at.result _ (omega (arith, a.long, same_length a)); small = c.requires.small.0 }
 
-pub put-heads-at-requires : goal.put-heads-at-requires
-put-heads-at-requires c =
+pub put_heads-at-requires : goal.put_heads-at-requires
+put_heads-at-requires c =
     let l = sized c.args.heads.now c.args.vehicles.now _ c.requires.sums c.requires.room in
-    let a = lend c.put-version-at.ensures c.put-count-at.ensures refl in
-    tail_room _ (c.put-version-at.result + c.put-count-at.result) _ (omega (arith, c.put-version-at.ensures.long, c.put-count-at.ensures.long, same_length a))
+    let a = lend c.put_version-at.ensures c.put_count-at.ensures refl in
+    tail_room _ (c.put_version-at.result + c.put_count-at.result) _ (omega (arith, c.put_version-at.ensures.long, c.put_count-at.ensures.long, same_length a))
 
-pub put-count-at-requires-2 : goal.put-count-at-requires-2
-put-count-at-requires-2 c =
+pub put_count-at-requires-2 : goal.put_count-at-requires-2
+put_count-at-requires-2 c =
     let l = sized c.args.heads.now c.args.vehicles.now _ c.requires.sums c.requires.room in
-    let a = lend (lend c.put-version-at.ensures c.put-count-at.ensures refl) c.put-heads-at.ensures refl in
+    let a = lend (lend c.put_version-at.ensures c.put_count-at.ensures refl) c.put_heads-at.ensures refl in
     record {
-      room = tail_room _ (c.put-version-at.result + c.put-count-at.result + c.put-heads-at.result) _
-          (omega (arith, c.put-version-at.ensures.long, c.put-count-at.ensures.long, c.put-heads-at.ensures.long, same_length a));
+      room = tail_room _ (c.put_version-at.result + c.put_count-at.result + c.put_heads-at.result) _
+          (omega (arith, c.put_version-at.ensures.long, c.put_count-at.ensures.long, c.put_heads-at.ensures.long, same_length a));
       small = c.requires.small.1;
     }
 
-pub put-vehicles-at-requires : goal.put-vehicles-at-requires
-put-vehicles-at-requires c =
+pub put_vehicles-at-requires : goal.put_vehicles-at-requires
+put_vehicles-at-requires c =
     let l = sized c.args.heads.now c.args.vehicles.now _ c.requires.sums c.requires.room in
-    let a = lend (lend (lend c.put-version-at.ensures c.put-count-at.ensures refl) c.put-heads-at.ensures refl) c.put-count-at-2.ensures refl in
-    tail_room _ (c.put-version-at.result + c.put-count-at.result + c.put-heads-at.result + c.put-count-at-2.result) _
-    (omega (arith, c.put-version-at.ensures.long, c.put-count-at.ensures.long, c.put-heads-at.ensures.long, c.put-count-at-2.ensures.long, same_length a))
+    let a = lend (lend (lend c.put_version-at.ensures c.put_count-at.ensures refl) c.put_heads-at.ensures refl) c.put_count-at-2.ensures refl in
+    tail_room _ (c.put_version-at.result + c.put_count-at.result + c.put_heads-at.result + c.put_count-at-2.result) _
+    (omega (arith, c.put_version-at.ensures.long, c.put_count-at.ensures.long, c.put_heads-at.ensures.long, c.put_count-at-2.ensures.long, same_length a))
 
 pub returns : goal.returns
 returns c =
     same_text (sym (book_parts c.args.heads.now c.args.vehicles.now c.requires.sums))
-    (lend (lend (lend (lend c.put-version-at.ensures c.put-count-at.ensures refl) c.put-heads-at.ensures refl) c.put-count-at-2.ensures refl) c.put-vehicles-at.ensures refl)
+    (lend (lend (lend (lend c.put_version-at.ensures c.put_count-at.ensures refl) c.put_heads-at.ensures refl) c.put_count-at-2.ensures refl) c.put_vehicles-at.ensures refl)

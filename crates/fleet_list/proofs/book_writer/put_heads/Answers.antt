@@ -7,20 +7,20 @@ use Rattle.fleet_list.proofs.book_writer.put_heads.Goals as goal
 pub loop-head-init : goal.loop-head-init
 loop-head-init c = record { wrote = written_none c.args.out.now; fits = omega (arith, c.requires) }
 
-pub put-head-at-requires : goal.put-head-at-requires
-put-head-at-requires c =
+pub put_head-at-requires : goal.put_head-at-requires
+put_head-at-requires c =
     tail_room c.loop-head.out c.loop-head.at _
     (writing_room [] head_row c.args.heads.now 0 c.loop-head.head-index c.loop-head.at c.args.out.now c.loop-head.out _ c.loop-head.invariant c.loop-head-test.true)
 
-pub overflow-add-at : goal.overflow-add-at
-overflow-add-at c =
-    let w = c.put-head-at.ensures in
-    omega (arith, lent_fits c.loop-head.out c.loop-head.at c.put-head-at.result (omega (arith, same_length c.loop-head.invariant.wrote, c.loop-head.invariant.wrote.fits)) w.fits)
+pub overflow_add-at : goal.overflow_add-at
+overflow_add-at c =
+    let w = c.put_head-at.ensures in
+    omega (arith, lent_fits c.loop-head.out c.loop-head.at c.put_head-at.result (omega (arith, same_length c.loop-head.invariant.wrote, c.loop-head.invariant.wrote.fits)) w.fits)
 
 pub loop-head-preserved : goal.loop-head-preserved
 loop-head-preserved c =
-    writing_more [] head_row c.args.heads.now 0 c.loop-head.head-index c.loop-head.at c.args.out.now c.loop-head.out _ _ c.put-head-at.result _ c.loop-head.invariant
-    c.loop-head-test.true c.put-head-at.ensures refl
+    writing_more [] head_row c.args.heads.now 0 c.loop-head.head-index c.loop-head.at c.args.out.now c.loop-head.out _ _ c.put_head-at.result _ c.loop-head.invariant
+    c.loop-head-test.true c.put_head-at.ensures refl
 
 pub returns : goal.returns
 returns c =

@@ -9,18 +9,18 @@ use Rattle.fleet_list.proofs.Gathers.{no_head}
 use Rattle.fleet_list.proofs.Checked.{part_past, part_here, part_all, last_more}
 use Rattle.fleet_list.proofs.checks.identities_rise.Goals as goal
 
-pub returns-then-not-is-rise : goal.returns-then-not-is-rise
-returns-then-not-is-rise c =
+pub returns-then-not-is_rise : goal.returns-then-not-is_rise
+returns-then-not-is_rise c =
     ap (λ x. Some x) c.refuse.ensures
     ∙ sym (ap (breach Text) c.loop-i.invariant.0
     ∙ part_here rising IdentityOrder head_identity c.args.heads.now c.loop-i.i Text no_head [] _ refl c.loop-i-test.true
-    (ap (λ p. rises p (head_identity (get_or c.args.heads.now c.loop-i.i no_head))) (sym c.loop-i.invariant.1) ∙ sym c.if-not-is-rise.ensures))
+    (ap (λ p. rises p (head_identity (get_or c.args.heads.now c.loop-i.i no_head))) (sym c.loop-i.invariant.1) ∙ sym c.if-not-is_rise.ensures))
 
 pub loop-i-preserved : goal.loop-i-preserved
 loop-i-preserved c = (
   c.loop-i.invariant.0
       ∙ part_past rising IdentityOrder head_identity c.args.heads.now c.loop-i.i no_head [] _ refl c.loop-i-test.true
-      (ap (λ p. rises p (head_identity (get_or c.args.heads.now c.loop-i.i no_head))) (sym c.loop-i.invariant.1) ∙ sym c.if-not-is-rise.ensures),
+      (ap (λ p. rises p (head_identity (get_or c.args.heads.now c.loop-i.i no_head))) (sym c.loop-i.invariant.1) ∙ sym c.if-not-is_rise.ensures),
   last_more head_identity c.args.heads.now c.loop-i.i no_head c.loop-i-test.true,
 )
 

@@ -19,26 +19,26 @@ here hs vs i from k d e w l ek =
 pub loop-i-init : goal.loop-i-init
 loop-i-init c = (refl, walk_none c.args.heads.now c.args.vehicles.now c.requires)
 
-pub overflow-add-end : goal.overflow-add-end
-overflow-add-end c = let l = walk_fits c.args.heads.now c.args.vehicles.now c.loop-i.i c.loop-i.from no_head c.loop-i.invariant.1 c.loop-i-test.true in omega (arith, l)
+pub overflow_add-end : goal.overflow_add-end
+overflow_add-end c = let l = walk_fits c.args.heads.now c.args.vehicles.now c.loop-i.i c.loop-i.from no_head c.loop-i.invariant.1 c.loop-i-test.true in omega (arith, l)
 
-pub slice-bounds-are-apart-end : goal.slice-bounds-are-apart-end
-slice-bounds-are-apart-end c = walk_fits c.args.heads.now c.args.vehicles.now c.loop-i.i c.loop-i.from no_head c.loop-i.invariant.1 c.loop-i-test.true
+pub slice_bounds-are_apart-end : goal.slice_bounds-are_apart-end
+slice_bounds-are_apart-end c = walk_fits c.args.heads.now c.args.vehicles.now c.loop-i.i c.loop-i.from no_head c.loop-i.invariant.1 c.loop-i-test.true
 
-pub returns-then-not-are-apart : goal.returns-then-not-are-apart
-returns-then-not-are-apart c =
+pub returns-then-not-are_apart : goal.returns-then-not-are_apart
+returns-then-not-are_apart c =
     ap (λ x. Some x) c.refuse.ensures
     ∙ sym (ap (breach Text) c.loop-i.invariant.0
     ∙ part_here (alone names_apart) Repeated vehicles_of (gathered c.args.heads.now c.args.vehicles.now) c.loop-i.i Text _ [] _
     (here c.args.heads.now c.args.vehicles.now c.loop-i.i c.loop-i.from _ no_head no_head c.loop-i.invariant.1 c.loop-i-test.true refl)
-    (omega (arith, length-gathered c.args.heads.now c.args.vehicles.now, c.loop-i-test.true)) (sym c.if-not-are-apart.ensures))
+    (omega (arith, length-gathered c.args.heads.now c.args.vehicles.now, c.loop-i-test.true)) (sym c.if-not-are_apart.ensures))
 
 pub loop-i-preserved : goal.loop-i-preserved
 loop-i-preserved c = (
   c.loop-i.invariant.0
       ∙ part_past (alone names_apart) Repeated vehicles_of (gathered c.args.heads.now c.args.vehicles.now) c.loop-i.i _ [] _
       (here c.args.heads.now c.args.vehicles.now c.loop-i.i c.loop-i.from _ no_head no_head c.loop-i.invariant.1 c.loop-i-test.true refl)
-      (omega (arith, length-gathered c.args.heads.now c.args.vehicles.now, c.loop-i-test.true)) (sym c.if-not-are-apart.ensures),
+      (omega (arith, length-gathered c.args.heads.now c.args.vehicles.now, c.loop-i-test.true)) (sym c.if-not-are_apart.ensures),
   walk_more c.args.heads.now c.args.vehicles.now c.loop-i.i c.loop-i.from no_head c.loop-i.invariant.1 c.loop-i-test.true,
 )
 

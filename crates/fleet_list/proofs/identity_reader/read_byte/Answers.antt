@@ -7,14 +7,14 @@ use Rattle.fleet_list.proofs.Hex.{front_digit, digits_byte, byte_digits}
 use Rattle.fleet_list.proofs.Seq.{refused_first, refused_second, refused_same}
 use Rattle.fleet_list.proofs.identity_reader.read_byte.Goals as goal
 
-pub returns-in-err-high : goal.returns-in-err-high
-returns-in-err-high c =
-    let p = err_from_is_err_and c.from-residual.result c.from-residual.ensures.1 in
+pub returns-in_err-high : goal.returns-in_err-high
+returns-in_err-high c =
+    let p = err_from_is_err_and c.from_residual.result c.from_residual.ensures.1 in
     rw (p.1, p.2) (refused_same (Both Nibble Nibble) (joint digit_text digit_text) Byte byte_text c.args.text.now c.args.from c.args.line _ digits_byte byte_digits
-    (refused_first Nibble digit_text Nibble digit_text c.args.text.now c.args.from c.args.line _ 0 (omega arith) c.in-err-high.ensures))
+    (refused_first Nibble digit_text Nibble digit_text c.args.text.now c.args.from c.args.line _ 0 (omega arith) c.in_err-high.ensures))
 
-pub returns-in-err-low : goal.returns-in-err-low
-returns-in-err-low c =
-    let p = err_from_is_err_and c.from-residual-in-err-low.result c.from-residual-in-err-low.ensures.1 in
+pub returns-in_err-low : goal.returns-in_err-low
+returns-in_err-low c =
+    let p = err_from_is_err_and c.from_residual-in_err-low.result c.from_residual-in_err-low.ensures.1 in
     rw (p.1, p.2) (refused_same (Both Nibble Nibble) (joint digit_text digit_text) Byte byte_text c.args.text.now c.args.from c.args.line _ digits_byte byte_digits
-    (refused_second Nibble digit_text Nibble digit_text c.args.text.now c.args.from c.in-ok-high.at c.args.line _ c.in-ok-high.high front_digit c.in-ok-high.ensures c.in-err-low.ensures))
+    (refused_second Nibble digit_text Nibble digit_text c.args.text.now c.args.from c.in_ok-high.at c.args.line _ c.in_ok-high.high front_digit c.in_ok-high.ensures c.in_err-low.ensures))

@@ -6,14 +6,14 @@ use Rattle.fleet_list.proofs.Hex.{in_byte, going_more, going_refused, going_done
 use Rattle.fleet_list.proofs.Seq.{nothing_there, wrong_there, refused_here, refused_with, begun_byte}
 use Rattle.fleet_list.proofs.identity_reader.read_identity.Goals as goal
 
-pub returns-in-err-b : goal.returns-in-err-b
-returns-in-err-b c =
-    let p = err_from_is_err_and c.from-residual.result c.from-residual.ensures.1 in
+pub returns-in_err-b : goal.returns-in_err-b
+returns-in_err-b c =
+    let p = err_from_is_err_and c.from_residual.result c.from_residual.ensures.1 in
     rw (p.1, p.2) (going_refused c.args.text.now c.args.from c.args.line c.loop-n.bytes c.loop-n.n c.loop-n.at (suc (15 - c.loop-n.n)) _ c.loop-n.invariant (omega arith)
-    (refused_with Byte byte_text (Bytes (suc (15 - c.loop-n.n))) bytes_text c.args.text.now c.loop-n.at c.args.line _ (in_byte (15 - c.loop-n.n)) c.in-err-b.ensures))
+    (refused_with Byte byte_text (Bytes (suc (15 - c.loop-n.n))) bytes_text c.args.text.now c.loop-n.at c.args.line _ (in_byte (15 - c.loop-n.n)) c.in_err-b.ensures))
 
 pub loop-n-preserved : goal.loop-n-preserved
-loop-n-preserved c = going_more c.args.text.now c.args.from c.loop-n.bytes c.loop-n.n c.loop-n.at c.in-ok-b.b c.in-ok-b.past c.loop-n.invariant c.loop-n-test.true c.in-ok-b.ensures
+loop-n-preserved c = going_more c.args.text.now c.args.from c.loop-n.bytes c.loop-n.n c.loop-n.at c.in_ok-b.b c.in_ok-b.past c.loop-n.invariant c.loop-n-test.true c.in_ok-b.ensures
 
 pub returns-then-at-text : goal.returns-then-at-text
 returns-then-at-text c =

@@ -3,27 +3,27 @@ use Rattle.std.proofs.lemmas.Result.{err_from_is_err_and}
 use Rattle.fleet_list.proofs.Stores.{need_is, at_rise, at_apart, at_room, at_none}
 use Rattle.fleet_list.proofs.import.store.Goals as goal
 
-pub returns-in-err-identities-rise : goal.returns-in-err-identities-rise
-returns-in-err-identities-rise c =
-    let p = err_from_is_err_and c.from-residual.result c.from-residual.ensures.1 in
-    rw (p.1, p.2) (at_rise c.args.heads.now c.args.vehicles.now (length c.args.out.now) _ c.in-err-identities-rise.ensures, refl)
+pub returns-in_err-identities_rise : goal.returns-in_err-identities_rise
+returns-in_err-identities_rise c =
+    let p = err_from_is_err_and c.from_residual.result c.from_residual.ensures.1 in
+    rw (p.1, p.2) (at_rise c.args.heads.now c.args.vehicles.now (length c.args.out.now) _ c.in_err-identities_rise.ensures, refl)
 
-pub returns-in-err-names-apart : goal.returns-in-err-names-apart
-returns-in-err-names-apart c =
-    let p = err_from_is_err_and c.from-residual-in-err-names-apart.result c.from-residual-in-err-names-apart.ensures.1 in
+pub returns-in_err-names_apart : goal.returns-in_err-names_apart
+returns-in_err-names_apart c =
+    let p = err_from_is_err_and c.from_residual-in_err-names_apart.result c.from_residual-in_err-names_apart.ensures.1 in
     rw (p.1, p.2)
-    (at_apart c.args.heads.now c.args.vehicles.now (length c.args.out.now) _ c.in-ok-identities-rise.ensures c.in-err-names-apart.ensures, refl)
+    (at_apart c.args.heads.now c.args.vehicles.now (length c.args.out.now) _ c.in_ok-identities_rise.ensures c.in_err-names_apart.ensures, refl)
 
 pub returns-then-out-need : goal.returns-then-out-need
 returns-then-out-need c = (
   at_room c.args.heads.now c.args.vehicles.now (length c.args.out.now) (6 + 21 * length c.args.heads.now + 17 * length c.args.vehicles.now)
-      c.in-ok-identities-rise.ensures c.in-ok-names-apart.ensures (need_is c.args.heads.now c.args.vehicles.now c.requires.sums c.requires.lines) c.if-out-need.true
+      c.in_ok-identities_rise.ensures c.in_ok-names_apart.ensures (need_is c.args.heads.now c.args.vehicles.now c.requires.sums c.requires.lines) c.if-out-need.true
       ∙ ap (λ z. Some z) (sym c.refuse.ensures),
   refl,
 )
 
-pub put-book-requires : goal.put-book-requires
-put-book-requires c = record {
+pub put_book-requires : goal.put_book-requires
+put_book-requires c = record {
   sums = c.requires.sums;
   small = (omega (arith, c.requires.few), omega (arith, c.requires.small));
   room = let e = need_is c.args.heads.now c.args.vehicles.now c.requires.sums c.requires.lines in omega (arith, c.if-out-need.false);
@@ -32,6 +32,6 @@ put-book-requires c = record {
 pub returns : goal.returns
 returns c = (
   at_none c.args.heads.now c.args.vehicles.now (length c.args.out.now) (6 + 21 * length c.args.heads.now + 17 * length c.args.vehicles.now)
-      c.in-ok-identities-rise.ensures c.in-ok-names-apart.ensures (need_is c.args.heads.now c.args.vehicles.now c.requires.sums c.requires.lines) c.if-out-need.false,
-  c.put-book.ensures,
+      c.in_ok-identities_rise.ensures c.in_ok-names_apart.ensures (need_is c.args.heads.now c.args.vehicles.now c.requires.sums c.requires.lines) c.if-out-need.false,
+  c.put_book.ensures,
 )

@@ -24,21 +24,21 @@ refused t from at line f e h = let r = refused_breaks from (drop from t) at e in
 pub loop-at-init : goal.loop-at-init
 loop-at-init c = record { within = c.requires; stands = refl; filled = (refl, refl); same = refl }
 
-pub returns-in-err-step : goal.returns-in-err-step
-returns-in-err-step c =
-    let p = err_from_is_err_and c.from-residual.result c.from-residual.ensures.1 in
-    let h = at_err c.args.text.now _ c.loop-at.at c.args.line c.step.new.self c.step.result _ (stepped (goal.at.returns-in-err-step c).After-step) c.in-err-step.was in
+pub returns-in_err-step : goal.returns-in_err-step
+returns-in_err-step c =
+    let p = err_from_is_err_and c.from_residual.result c.from_residual.ensures.1 in
+    let h = at_err c.args.text.now _ c.loop-at.at c.args.line c.step.new.self c.step.result _ (stepped (goal.at.returns-in_err-step c).After-step) c.in_err-step.was in
     rw (p.1, p.2) (refused c.args.text.now c.args.from c.loop-at.at c.args.line _ h.0 h.1)
 
 pub returns-in-Ended : goal.returns-in-Ended
 returns-in-Ended c =
-    let e = at_end c.args.text.now _ c.loop-at.at c.args.line c.step.new.self c.step.result _ (stepped (goal.at.returns-in-Ended c).After-step) c.in-ok-step.was c.in-Ended.is in
+    let e = at_end c.args.text.now _ c.loop-at.at c.args.line c.step.new.self c.step.result _ (stepped (goal.at.returns-in-Ended c).After-step) c.in_ok-step.was c.in-Ended.is in
     let a = accepted_printed c.args.from (drop c.args.from c.args.text.now) _ _ _ e.0 in
     name_read c.args.text.now c.args.from c.step.new.self (c.loop-at.at + 1) (omega (arith, room_16 c.step.new.self.state c.step.new.self.len c.step.ensures.stands)) e.1 (reads _ quoted c.args.text.now c.args.from (name_of c.step.new.self) (c.loop-at.at + 1) c.requires (omega arith) a.0 a.1)
 
 pub loop-at-preserved : goal.loop-at-preserved
 loop-at-preserved c =
-    at_next c.args.text.now _ c.loop-at.at c.args.line c.step.new.self c.step.result _ (stepped (goal.at.loop-at-preserved c).After-step) c.in-ok-step.was c.in-default.not-Ended c.step.ensures.stands c.loop-at-test.true
+    at_next c.args.text.now _ c.loop-at.at c.args.line c.step.new.self c.step.result _ (stepped (goal.at.loop-at-preserved c).After-step) c.in_ok-step.was c.in_default.not-Ended c.step.ensures.stands c.loop-at-test.true
 
 pub returns : goal.returns
 returns c =

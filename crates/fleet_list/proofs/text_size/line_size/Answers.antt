@@ -2,23 +2,23 @@ use Rattle.std.proofs.Common.{arith}
 use Rattle.fleet_list.proofs.Sizes.{line_sized}
 use Rattle.fleet_list.proofs.text_size.line_size.Goals as goal
 
-pub hex-size-identity-requires : goal.hex-size-identity-requires
-hex-size-identity-requires c = omega (arith, line_sized c.args.head.now c.args.vehicles.now, c.requires)
+pub hex_size-identity-requires : goal.hex_size-identity-requires
+hex_size-identity-requires c = omega (arith, line_sized c.args.head.now c.args.vehicles.now, c.requires)
 
-pub decimal-size-counter-requires : goal.decimal-size-counter-requires
-decimal-size-counter-requires c = omega (arith, line_sized c.args.head.now c.args.vehicles.now, c.requires)
+pub decimal_size-counter-requires : goal.decimal_size-counter-requires
+decimal_size-counter-requires c = omega (arith, line_sized c.args.head.now c.args.vehicles.now, c.requires)
 
-pub vehicles-size-all-requires : goal.vehicles-size-all-requires
-vehicles-size-all-requires c = omega (arith, line_sized c.args.head.now c.args.vehicles.now, c.requires)
+pub vehicles_size-all-requires : goal.vehicles_size-all-requires
+vehicles_size-all-requires c = omega (arith, line_sized c.args.head.now c.args.vehicles.now, c.requires)
 
-pub overflow-add-result : goal.overflow-add-result
-overflow-add-result c = omega (arith, line_sized c.args.head.now c.args.vehicles.now, c.requires, c.hex-size-identity.ensures, c.decimal-size-counter.ensures)
+pub overflow_add-result : goal.overflow_add-result
+overflow_add-result c = omega (arith, line_sized c.args.head.now c.args.vehicles.now, c.requires, c.hex_size-identity.ensures, c.decimal_size-counter.ensures)
 
-pub overflow-add-result-2 : goal.overflow-add-result-2
-overflow-add-result-2 c = omega (arith, line_sized c.args.head.now c.args.vehicles.now, c.requires, c.hex-size-identity.ensures, c.decimal-size-counter.ensures, c.vehicles-size-all.ensures)
+pub overflow_add-result-2 : goal.overflow_add-result-2
+overflow_add-result-2 c = omega (arith, line_sized c.args.head.now c.args.vehicles.now, c.requires, c.hex_size-identity.ensures, c.decimal_size-counter.ensures, c.vehicles_size-all.ensures)
 
-pub overflow-add-result-3 : goal.overflow-add-result-3
-overflow-add-result-3 c = omega (arith, line_sized c.args.head.now c.args.vehicles.now, c.requires, c.hex-size-identity.ensures, c.decimal-size-counter.ensures, c.vehicles-size-all.ensures)
+pub overflow_add-result-3 : goal.overflow_add-result-3
+overflow_add-result-3 c = omega (arith, line_sized c.args.head.now c.args.vehicles.now, c.requires, c.hex_size-identity.ensures, c.decimal_size-counter.ensures, c.vehicles_size-all.ensures)
 
 pub returns : goal.returns
-returns c = omega (arith, line_sized c.args.head.now c.args.vehicles.now, c.hex-size-identity.ensures, c.decimal-size-counter.ensures, c.vehicles-size-all.ensures)
+returns c = omega (arith, line_sized c.args.head.now c.args.vehicles.now, c.hex_size-identity.ensures, c.decimal_size-counter.ensures, c.vehicles_size-all.ensures)

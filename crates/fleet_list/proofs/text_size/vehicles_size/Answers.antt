@@ -6,18 +6,18 @@ use Rattle.fleet_list.proofs.text_size.vehicles_size.Goals as goal
 pub loop-vehicle-init : goal.loop-vehicle-init
 loop-vehicle-init c = summed_none vehicle_text c.args.vehicles.now
 
-pub vehicle-size-size-requires : goal.vehicle-size-size-requires
-vehicle-size-size-requires c = next_small vehicle_text c.args.vehicles.now c.loop-vehicle.vehicle-index c.loop-vehicle.size _ c.loop-vehicle.invariant c.loop-vehicle-test.true c.requires
+pub vehicle_size-size-requires : goal.vehicle_size-size-requires
+vehicle_size-size-requires c = next_small vehicle_text c.args.vehicles.now c.loop-vehicle.vehicle-index c.loop-vehicle.size _ c.loop-vehicle.invariant c.loop-vehicle-test.true c.requires
 
-pub overflow-add-size : goal.overflow-add-size
-overflow-add-size c =
-    let h = sum_small vehicle_text c.args.vehicles.now c.loop-vehicle.vehicle-index c.loop-vehicle.size _ c.vehicle-size-size.result c.loop-vehicle.invariant c.loop-vehicle-test.true c.requires c.vehicle-size-size.ensures in
+pub overflow_add-size : goal.overflow_add-size
+overflow_add-size c =
+    let h = sum_small vehicle_text c.args.vehicles.now c.loop-vehicle.vehicle-index c.loop-vehicle.size _ c.vehicle_size-size.result c.loop-vehicle.invariant c.loop-vehicle-test.true c.requires c.vehicle_size-size.ensures in
     omega arith
 
 pub loop-vehicle-preserved : goal.loop-vehicle-preserved
 loop-vehicle-preserved c =
-    summed_more vehicle_text c.args.vehicles.now c.loop-vehicle.vehicle-index c.loop-vehicle.size _ c.vehicle-size-size.result c.loop-vehicle.invariant c.loop-vehicle-test.true
-    c.vehicle-size-size.ensures
+    summed_more vehicle_text c.args.vehicles.now c.loop-vehicle.vehicle-index c.loop-vehicle.size _ c.vehicle_size-size.result c.loop-vehicle.invariant c.loop-vehicle-test.true
+    c.vehicle_size-size.ensures
 
 pub returns : goal.returns
 returns c = summed_all vehicle_text c.args.vehicles.now c.loop-vehicle.vehicle-index c.loop-vehicle.size c.loop-vehicle.invariant c.loop-vehicle-test.false

@@ -15,20 +15,20 @@ bounds-out-0 t c = omega (arith, long_one c.args.n c.if-n-lt10.true)
 pub returns-then-n-lt10 : goal.returns-then-n-lt10
 returns-then-n-lt10 t c = same_text (sym (decimal_digit c.args.n c.if-n-lt10.true)) (then_byte (written_none c.args.out.now) (48 + c.args.n) (omega (arith, long_one c.args.n c.if-n-lt10.true)))
 
-pub put-decimal-at-requires : goal.put-decimal-at-requires
-put-decimal-at-requires t c = (omega arith, omega (arith, long_more c.args.n c.if-n-lt10.false (omega arith)))
+pub put_decimal-at-requires : goal.put_decimal-at-requires
+put_decimal-at-requires t c = (omega arith, omega (arith, long_more c.args.n c.if-n-lt10.false (omega arith)))
 
 pub bounds-out-at : goal.bounds-out-at
 bounds-out-at t c =
-    let w = c.put-decimal-at.ensures in
+    let w = c.put_decimal-at.ensures in
     omega (arith, long_more c.args.n c.if-n-lt10.false (omega arith), w.long)
 
-pub overflow-add-result : goal.overflow-add-result
-overflow-add-result t c =
-    let w = c.put-decimal-at.ensures in
+pub overflow_add-result : goal.overflow_add-result
+overflow_add-result t c =
+    let w = c.put_decimal-at.ensures in
     omega (arith, long_more c.args.n c.if-n-lt10.false (omega arith), w.long)
 
 pub returns : goal.returns
 returns t c =
-    let w = c.put-decimal-at.ensures in
+    let w = c.put_decimal-at.ensures in
     same_text (sym (decimal_step c.args.n c.if-n-lt10.false (omega arith))) (then_byte w (48 + c.args.n % 10) (omega (arith, long_more c.args.n c.if-n-lt10.false (omega arith), w.long)))

@@ -10,16 +10,16 @@ use Rattle.fleet_list.proofs.text_writer.put_list.Goals as goal
 pub loop-head-init : goal.loop-head-init
 loop-head-init c = (record { wrote = written_none c.args.out.now; fits = omega (arith, c.requires.room) }, walk_none c.args.heads.now c.args.vehicles.now c.requires.sums)
 
-pub overflow-add-end : goal.overflow-add-end
-overflow-add-end c =
+pub overflow_add-end : goal.overflow_add-end
+overflow_add-end c =
     let l = walk_fits c.args.heads.now c.args.vehicles.now c.loop-head.head-index c.loop-head.from no_head c.loop-head.invariant.1 c.loop-head-test.true in
     omega (arith, l)
 
-pub slice-bounds-put-line-end-in-loop-head : goal.slice-bounds-put-line-end-in-loop-head
-slice-bounds-put-line-end-in-loop-head c = walk_fits c.args.heads.now c.args.vehicles.now c.loop-head.head-index c.loop-head.from no_head c.loop-head.invariant.1 c.loop-head-test.true
+pub slice_bounds-put_line-end-in-loop-head : goal.slice_bounds-put_line-end-in-loop-head
+slice_bounds-put_line-end-in-loop-head c = walk_fits c.args.heads.now c.args.vehicles.now c.loop-head.head-index c.loop-head.from no_head c.loop-head.invariant.1 c.loop-head-test.true
 
-pub put-line-at-requires : goal.put-line-at-requires
-put-line-at-requires c =
+pub put_line-at-requires : goal.put_line-at-requires
+put_line-at-requires c =
     let e = ap length (line_here c.args.heads.now c.args.vehicles.now c.loop-head.head-index c.loop-head.from c.loop-head.invariant.1 c.loop-head-test.true) in
     let r = writing_room [] line_text (gathered c.args.heads.now c.args.vehicles.now) 0 c.loop-head.head-index c.loop-head.at c.args.out.now c.loop-head.out (item_of no_head []) c.loop-head.invariant.0
     (omega (arith, length-gathered c.args.heads.now c.args.vehicles.now, c.loop-head-test.true)) in
@@ -28,8 +28,8 @@ put-line-at-requires c =
 pub loop-head-preserved : goal.loop-head-preserved
 loop-head-preserved c =
     let e = line_here c.args.heads.now c.args.vehicles.now c.loop-head.head-index c.loop-head.from c.loop-head.invariant.1 c.loop-head-test.true in (
-      writing_more [] line_text (gathered c.args.heads.now c.args.vehicles.now) 0 c.loop-head.head-index c.loop-head.at c.args.out.now c.loop-head.out _ (item_of no_head []) c.put-line-at.result _
-          c.loop-head.invariant.0 (omega (arith, length-gathered c.args.heads.now c.args.vehicles.now, c.loop-head-test.true)) (same_text e c.put-line-at.ensures) refl,
+      writing_more [] line_text (gathered c.args.heads.now c.args.vehicles.now) 0 c.loop-head.head-index c.loop-head.at c.args.out.now c.loop-head.out _ (item_of no_head []) c.put_line-at.result _
+          c.loop-head.invariant.0 (omega (arith, length-gathered c.args.heads.now c.args.vehicles.now, c.loop-head-test.true)) (same_text e c.put_line-at.ensures) refl,
       walk_more c.args.heads.now c.args.vehicles.now c.loop-head.head-index c.loop-head.from no_head c.loop-head.invariant.1 c.loop-head-test.true,
     )
 

@@ -11,15 +11,15 @@ loop-b-init c = record {
   fits = omega (arith, c.requires, length-append (flat_map escaped c.args.text.now) (34 ∷ []), length-set c.args.out.now 0 34);
 }
 
-pub put-escaped-at-requires : goal.put-escaped-at-requires
-put-escaped-at-requires c =
+pub put_escaped-at-requires : goal.put_escaped-at-requires
+put_escaped-at-requires c =
     tail_room c.loop-b.out c.loop-b.at _
     (writing_room (34 ∷ []) escaped c.args.text.now 1 c.loop-b.b-index c.loop-b.at (set c.args.out.now 0 34) c.loop-b.out 0 c.loop-b.invariant c.loop-b-test.true)
 
 pub loop-b-preserved : goal.loop-b-preserved
 loop-b-preserved c =
-    writing_more (34 ∷ []) escaped c.args.text.now 1 c.loop-b.b-index c.loop-b.at (set c.args.out.now 0 34) c.loop-b.out _ 0 c.put-escaped-at.result _ c.loop-b.invariant
-    c.loop-b-test.true c.put-escaped-at.ensures refl
+    writing_more (34 ∷ []) escaped c.args.text.now 1 c.loop-b.b-index c.loop-b.at (set c.args.out.now 0 34) c.loop-b.out _ 0 c.put_escaped-at.result _ c.loop-b.invariant
+    c.loop-b-test.true c.put_escaped-at.ensures refl
 
 pub returns : goal.returns
 returns c =

@@ -23,5 +23,5 @@ returns-in-43 c = reads_byte Known sign c.args.text.now c.args.from Direct 43 c.
 pub returns-in-45 : goal.returns-in-45
 returns-in-45 c = reads_byte Known sign c.args.text.now c.args.from Inverse 45 c.if-from-text.false refl c.in-45.is refl
 
-pub returns-in-default : goal.returns-in-default
-returns-in-default c = refused_here Known sign c.args.text.now c.args.from c.args.line c.broken-in-default.result c.broken-in-default.ensures (wrong_there Known sign Sign c.args.text.now c.args.from Direct refl first c.if-from-text.false (⊎_elim (λ h. omega arith) (λ h. omega arith)))
+pub returns-in_default : goal.returns-in_default
+returns-in_default c = refused_here Known sign c.args.text.now c.args.from c.args.line c.broken-in_default.result c.broken-in_default.ensures (wrong_there Known sign Sign c.args.text.now c.args.from Direct refl first c.if-from-text.false (⊎_elim (λ h. omega arith) (λ h. omega arith)))

@@ -8,15 +8,15 @@ use Rattle.fleet_list.proofs.Pads.{front_named}
 use Rattle.fleet_list.proofs.Seq.{reads_both, refused_first, refused_second}
 use Rattle.fleet_list.proofs.vehicle_reader.read_vehicle.Goals as goal
 
-pub returns-in-err-bytes : goal.returns-in-err-bytes
-returns-in-err-bytes c =
-    let p = err_from_is_err_and c.from-residual.result c.from-residual.ensures.1 in
-    rw (p.1, p.2) (refused_first IsName name_text Known sign c.args.text.now c.args.from c.args.line _ Direct refl c.in-err-bytes.ensures)
+pub returns-in_err-bytes : goal.returns-in_err-bytes
+returns-in_err-bytes c =
+    let p = err_from_is_err_and c.from_residual.result c.from_residual.ensures.1 in
+    rw (p.1, p.2) (refused_first IsName name_text Known sign c.args.text.now c.args.from c.args.line _ Direct refl c.in_err-bytes.ensures)
 
-pub returns-in-err-facing : goal.returns-in-err-facing
-returns-in-err-facing c =
-    let p = err_from_is_err_and c.from-residual-in-err-facing.result c.from-residual-in-err-facing.ensures.1 in
-    rw (p.1, p.2) (refused_second IsName name_text Known sign c.args.text.now c.args.from c.in-ok-bytes.at c.args.line _ c.in-ok-bytes.bytes front_named c.in-ok-bytes.ensures c.in-err-facing.ensures)
+pub returns-in_err-facing : goal.returns-in_err-facing
+returns-in_err-facing c =
+    let p = err_from_is_err_and c.from_residual-in_err-facing.result c.from_residual-in_err-facing.ensures.1 in
+    rw (p.1, p.2) (refused_second IsName name_text Known sign c.args.text.now c.args.from c.in_ok-bytes.at c.args.line _ c.in_ok-bytes.bytes front_named c.in_ok-bytes.ensures c.in_err-facing.ensures)
 
 pub returns : goal.returns
-returns c = reads_both IsName name_text Known sign c.args.text.now c.args.from c.in-ok-bytes.at c.in-ok-facing.end c.in-ok-bytes.bytes c.in-ok-facing.facing c.in-ok-bytes.ensures c.in-ok-facing.ensures
+returns c = reads_both IsName name_text Known sign c.args.text.now c.args.from c.in_ok-bytes.at c.in_ok-facing.end c.in_ok-bytes.bytes c.in_ok-facing.facing c.in_ok-bytes.ensures c.in_ok-facing.ensures

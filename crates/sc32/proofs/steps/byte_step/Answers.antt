@@ -6,4 +6,4 @@ use Rattle.sc32.proofs.steps.byte_step.Goals as goal
 pub returns : goal.returns
 returns c =
     let register = c.args.register in
-    ap (bit_xor (register * 2 ^ 8 % 2 ^ 32)) c.after-8.ensures ∙ sym (by_table register c.args.byte (omega arith))
+    ap (bit_xor (register * 2 ^ 8 % 2 ^ 32)) c.after_8.ensures ∙ sym (by_table register c.args.byte (omega arith))

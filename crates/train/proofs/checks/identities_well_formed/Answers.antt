@@ -5,16 +5,16 @@ use Rattle.train.specs.Refusals.{breach, alone}
 use Rattle.train.proofs.Rules.{each_past, each_here, each_all}
 use Rattle.train.proofs.checks.identities_well_formed.Goals as goal
 
-pub returns-then-not-well-formed : goal.returns-then-not-well-formed
-returns-then-not-well-formed g c =
+pub returns-then-not-well_formed : goal.returns-then-not-well_formed
+returns-then-not-well_formed g c =
     ap Some c.at.ensures
     ∙ sym (ap (breach c.args.part) c.loop-i.invariant
-    ∙ each_here (alone (λ x. is_identity (g.T.Labelled.labels x))) IdentityOrder c.args.entries.now c.loop-i.i c.args.part c.index-entries-i.result _ c.index-entries-i.is c.loop-i-test.true (sym (c.if-not-well-formed.ensures ∙ ap is_identity c.label.ensures)))
+    ∙ each_here (alone (λ x. is_identity (g.T.Labelled.labels x))) IdentityOrder c.args.entries.now c.loop-i.i c.args.part c.index-entries-i.result _ c.index-entries-i.is c.loop-i-test.true (sym (c.if-not-well_formed.ensures ∙ ap is_identity c.label.ensures)))
 
 pub loop-i-preserved : goal.loop-i-preserved
 loop-i-preserved g c =
     c.loop-i.invariant
-    ∙ each_past (alone (λ x. is_identity (g.T.Labelled.labels x))) IdentityOrder c.args.entries.now c.loop-i.i c.index-entries-i.result _ c.index-entries-i.is c.loop-i-test.true (sym (c.if-not-well-formed.ensures ∙ ap is_identity c.label.ensures))
+    ∙ each_past (alone (λ x. is_identity (g.T.Labelled.labels x))) IdentityOrder c.args.entries.now c.loop-i.i c.index-entries-i.result _ c.index-entries-i.is c.loop-i-test.true (sym (c.if-not-well_formed.ensures ∙ ap is_identity c.label.ensures))
 
 pub returns : goal.returns
 returns g c =

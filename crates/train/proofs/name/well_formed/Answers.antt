@@ -9,23 +9,23 @@ front bs n e = let z : n - 0 ≡ n = omega arith in ap (λ (m : ℕ). take m bs)
 pub returns-then-n-eq0 : goal.returns-then-n-eq0
 returns-then-n-eq0 c =
     let bs = c.args.bytes.now in
-    let n = c.text-len-n.result in
+    let n = c.text_len-n.result in
     let out : (n ≡ 0) ⊎ (15 < n) = elim c.then-n-eq0.either [ inl e ↦ inl e | inr h ↦ inr h.1 ] in
-    let e = outside bs n c.text-len-n.ensures.value out in
+    let e = outside bs n c.text_len-n.ensures.value out in
     record { value = e; rule = name_rule_at bs _ e }
 
-pub returns-then-all-printable : goal.returns-then-all-printable
-returns-then-all-printable c =
+pub returns-then-all_printable : goal.returns-then-all_printable
+returns-then-all_printable c =
     let bs = c.args.bytes.now in
-    let n = c.text-len-n.result in
-    let e = printed bs n c.text-len-n.ensures.value _ c.same.result (front bs n c.text-len-n.ensures.front) (omega arith) (omega arith)
-    (sym c.if-all-printable.ensures) c.same.ensures in
+    let n = c.text_len-n.result in
+    let e = printed bs n c.text_len-n.ensures.value _ c.same.result (front bs n c.text_len-n.ensures.front) (omega arith) (omega arith)
+    (sym c.if-all_printable.ensures) c.same.ensures in
     record { value = e; rule = name_rule_at bs _ e }
 
-pub returns-else-all-printable : goal.returns-else-all-printable
-returns-else-all-printable c =
+pub returns-else-all_printable : goal.returns-else-all_printable
+returns-else-all_printable c =
     let bs = c.args.bytes.now in
-    let n = c.text-len-n.result in
-    let no = unprinted bs n c.text-len-n.ensures.value _ (front bs n c.text-len-n.ensures.front) (sym c.if-all-printable.ensures) in
-    let e = c.if-all-printable.false ∙ no in
+    let n = c.text_len-n.result in
+    let no = unprinted bs n c.text_len-n.ensures.value _ (front bs n c.text_len-n.ensures.front) (sym c.if-all_printable.ensures) in
+    let e = c.if-all_printable.false ∙ no in
     record { value = e; rule = name_rule_at bs _ e }

@@ -17,9 +17,9 @@ returns c =
     let f = shown c.args.self.now in
     let names = c.args.names.now in
     let formed : None ≡ breach Bench (must (some f.formation) NoFormation) =
-    c.in-ok-require.ensures ∙ ap (λ b. breach Bench (must b NoFormation)) c.is-formed.ensures in
-    let h = last_answers Bench (list_checks names) (must (some f.formation) NoFormation) None c.in-ok-check-list.ensures.answer formed in
+    c.in_ok-require.ensures ∙ ap (λ b. breach Bench (must b NoFormation)) c.is_formed.ensures in
+    let h = last_answers Bench (list_checks names) (must (some f.formation) NoFormation) None c.in_ok-check_list.ensures.answer formed in
     record {
       answer = h;
-      facts = ap (λ ns. record { etb = f.etb; formation = f.formation; claims = f.claims; confirmed = ns }) (front_copied names _ _ c.copy-from-slice.ensures.after) ∙ taken_does f (Call.confirm names) h;
+      facts = ap (λ ns. record { etb = f.etb; formation = f.formation; claims = f.claims; confirmed = ns }) (front_copied names _ _ c.copy_from_slice.ensures.after) ∙ taken_does f (Call.confirm names) h;
     }

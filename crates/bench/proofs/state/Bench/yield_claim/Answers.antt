@@ -12,16 +12,16 @@ use Rattle.bench.specs.Shown.{shown}
 use Rattle.bench.proofs.Acts.{refused_keeps, taken_does, with_claims, claim_freed, claim_read}
 use Rattle.bench.proofs.state.Bench.yield_claim.Goals as goal
 
-pub returns-in-err-require : goal.returns-in-err-require
-returns-in-err-require c =
-    let p = err_from_is_err_and c.from-residual-in-err-require.result c.from-residual-in-err-require.ensures.1 in
+pub returns-in_err-require : goal.returns-in_err-require
+returns-in_err-require c =
+    let p = err_from_is_err_and c.from_residual-in_err-require.result c.from_residual-in_err-require.ensures.1 in
     let f = shown c.args.self.now in
     let x = c.args.identity in
-    let place = c.in-ok-place.ensures in
+    let place = c.in_ok-place.ensures in
     let held = c.at-held.ensures.value
-    ∙ claim_read x f.formation c.args.self.now.claims.table c.in-ok-place.place place.value.0 place.value.2 c.at-held.ensures.long _ in
-    let h = last_answers Bench (place_checks f x) (must (is_some (f.claims x)) NothingStands) (Some c.in-err-require.field-0.0) place.answer
-    (c.in-err-require.ensures ∙ ap (λ b. breach Bench (must b NothingStands)) (c.is-some.ensures ∙ ap is_some held)) in
+    ∙ claim_read x f.formation c.args.self.now.claims.table c.in_ok-place.place place.value.0 place.value.2 c.at-held.ensures.long _ in
+    let h = last_answers Bench (place_checks f x) (must (is_some (f.claims x)) NothingStands) (Some c.in_err-require.field-0.0) place.answer
+    (c.in_err-require.ensures ∙ ap (λ b. breach Bench (must b NothingStands)) (c.is_some.ensures ∙ ap is_some held)) in
     record { answer = ap refusal_of p.1 ∙ ap Some p.2 ∙ h; facts = refused_keeps f (Call.yield x) _ h }
 
 pub returns : goal.returns
@@ -29,10 +29,10 @@ returns c =
     let f = shown c.args.self.now in
     let x = c.args.identity in
     let table = c.args.self.now.claims.table in
-    let place = c.in-ok-place.ensures in
+    let place = c.in_ok-place.ensures in
     let held = c.at-held.ensures.value
-    ∙ claim_read x f.formation table c.in-ok-place.place place.value.0 place.value.2 c.at-held.ensures.long _ in
+    ∙ claim_read x f.formation table c.in_ok-place.place place.value.0 place.value.2 c.at-held.ensures.long _ in
     let h = last_answers Bench (place_checks f x) (must (is_some (f.claims x)) NothingStands) None place.answer
-    (c.in-ok-require.ensures ∙ ap (λ b. breach Bench (must b NothingStands)) (c.is-some.ensures ∙ ap is_some held)) in
-    let put = claim_freed x f.formation table c.in-ok-place.place place.value.0 place.value.2 c.set.ensures.long c.set.new.self.table c.set.ensures.after in
+    (c.in_ok-require.ensures ∙ ap (λ b. breach Bench (must b NothingStands)) (c.is_some.ensures ∙ ap is_some held)) in
+    let put = claim_freed x f.formation table c.in_ok-place.place place.value.0 place.value.2 c.set.ensures.long c.set.new.self.table c.set.ensures.after in
     record { answer = h; facts = ap (with_claims f) put ∙ taken_does f (Call.yield x) h }

@@ -8,7 +8,7 @@ returns c =
     let rest = ap (λ (f : ℕ). c.args.number ∷ f ∷ c.args.self.now.number ∷ 0 ∷ []) c.number.ensures in
     record {
       wrote = record {
-        wrote = two c.args.out.now 16 4 c.copy-from-slice.ensures.after (c.copy-from-slice-2.ensures.after ∙ rest) (omega arith);
+        wrote = two c.args.out.now 16 4 c.copy_from_slice.ensures.after (c.copy_from_slice-2.ensures.after ∙ rest) (omega arith);
         long = simp length-append (omega arith);
         fits = c.requires;
       };

@@ -9,8 +9,8 @@ returns c =
     record {
       wrote = record {
         wrote =
-            three c.args.out.now 16 4 4 c.copy-from-slice.ensures.after
-            (c.copy-from-slice-2.ensures.after ∙ c.to-be-bytes-counter.ensures) (c.copy-from-slice-3.ensures.after ∙ rest) (omega arith) refl;
+            three c.args.out.now 16 4 4 c.copy_from_slice.ensures.after
+            (c.copy_from_slice-2.ensures.after ∙ c.to_be_bytes-counter.ensures) (c.copy_from_slice-3.ensures.after ∙ rest) (omega arith) refl;
         long = simp length-append (omega arith);
         fits = c.requires;
       };

@@ -10,8 +10,8 @@ returns c =
     record {
       wrote = record {
         wrote =
-            two c.args.out.now 16 8 c.copy-from-slice.ensures.after
-            (c.copy-from-slice-2.ensures.after ∙ eight c.args.number s.number s.run _ _ _ _ _ _ c.lead-byte.ensures c.number.ensures c.number-2.ensures) (omega arith);
+            two c.args.out.now 16 8 c.copy_from_slice.ensures.after
+            (c.copy_from_slice-2.ensures.after ∙ eight c.args.number s.number s.run _ _ _ _ _ _ c.lead_byte.ensures c.number.ensures c.number-2.ensures) (omega arith);
         long = simp length-append (omega arith);
         fits = c.requires;
       };

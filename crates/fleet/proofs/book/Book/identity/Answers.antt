@@ -22,5 +22,5 @@ returns c =
     let es = rows 21 b.count b.entries.now in
     let vs = rows 17 b.total b.table.now in
     let n = length-rows 21 b.count b.entries.now in
-    identity_here es vs c.args.k c.consist-row.result.now _ c.if-k-eq0.false (omega arith) c.consist-row.ensures.is (c.copy-from-slice.ensures.after ∙ c.identity-of.ensures)
+    identity_here es vs c.args.k c.consist_row.result.now _ c.if-k-eq0.false (omega arith) c.consist_row.ensures.is (c.copy_from_slice.ensures.after ∙ c.identity_of.ensures)
     ∙ sym (ap (λ (is : List Item). identity_at is c.args.k) (held_is b.bytes.now b.entries.now b.table.now b.count b.total b.counted b.cut b.totalled b.rest))

@@ -29,7 +29,7 @@ returns c =
     let k = ap length e in
     record {
       name = ap (λ (is : List Item). name_at is c.args.k) e
-          ∙ name_here es vs c.args.k c.vehicle-row.result.now c.name-of-bytes.result.now s c.if-k-eq0.false (omega arith) c.vehicle-row.ensures.is c.name-of-bytes.ensures.is;
+          ∙ name_here es vs c.args.k c.vehicle_row.result.now c.name_of-bytes.result.now s c.if-k-eq0.false (omega arith) c.vehicle_row.ensures.is c.name_of-bytes.ensures.is;
       offset = omega arith;
-      lends = name_lent b.bytes.now b.table.now b.count b.total (c.args.k - 1) _ c.vehicle-row.result.now c.name-of-bytes.result.now b.rest b.counted (omega arith) (omega arith) c.vehicle-row.ensures.is c.name-of-bytes.ensures.is;
+      lends = name_lent b.bytes.now b.table.now b.count b.total (c.args.k - 1) _ c.vehicle_row.result.now c.name_of-bytes.result.now b.rest b.counted (omega arith) (omega arith) c.vehicle_row.ensures.is c.name_of-bytes.ensures.is;
     }

@@ -11,6 +11,6 @@ returns c =
     record {
       own = refl;
       count = refl;
-      whole = copied_whole _ _ _ _ c.copy-from-slice.ensures.after (sub-zero _) c.requires refl;
-      consist = ap (λ (vs : List Vehicle). let k : Consist = record { counter = c.args.counter; vehicles = vs } in k) (front_copied _ _ _ c.copy-from-slice.ensures.after);
+      whole = copied_whole _ _ _ _ c.copy_from_slice.ensures.after (sub-zero _) c.requires refl;
+      consist = ap (λ (vs : List Vehicle). let k : Consist = record { counter = c.args.counter; vehicles = vs } in k) (front_copied _ _ _ c.copy_from_slice.ensures.after);
     }
