@@ -1,7 +1,7 @@
 -- A call is accepted where its arguments are in order and what stands lets it be; and at most one of each fact stands.
-use Rattle.std.proofs.Common.{◌≡◌, ℕ, ◌≤◌, Bool, true, false, cond, not, ◌&&◌, leb, ◌⊎◌, ◌↔◌, List, [], ◌∷◌, length, is_some, Some, None, Option, sym, refl, ap, ◌∙◌, subst, inl, inr, arith}
+use Rattle.std.proofs.Common.{◌≡◌, ℕ, ◌≤◌, true, ◌&&◌, ◌⊎◌, List, [], ◌∷◌, length, is_some, Some, None, Option, sym, refl, ap, ◌∙◌, subst, inl, inr, arith}
 use Rattle.std.specs.List.{AllByRecursion as All}
-use Rattle.std.proofs.lemmas.Bool.{and_parts, and_from, leb-true, le-leb, cases_lt}
+use Rattle.std.proofs.lemmas.Bool.{and_parts, and_from, leb-true, le-leb}
 use Rattle.train.specs.declared.identity.Identity.{Identity}
 use Rattle.train.specs.declared.name.Name.{Name}
 use Rattle.train.specs.declared.entries.Coupled.{Coupled}
@@ -12,8 +12,8 @@ use Rattle.train.proofs.Names.{every_decides}
 use Rattle.bench.specs.declared.claims.Claim.{Claim}
 use Rattle.bench.specs.Calls.{Call}
 use Rattle.bench.specs.Calls.Call.{inaugurate, claim, yield, confirm, withdraw}
-use Rattle.bench.specs.Facts.{Facts, nothing, after_all, accepted, checks, list_checks, within, some, coupled_in}
-use Rattle.bench.specs.Standing.{Fact, Taken, Stands, Holds, Allowed, AcceptedAsTold, StandingLaws, well}
+use Rattle.bench.specs.Facts.{nothing, after_all, checks, list_checks, within, some, coupled_in}
+use Rattle.bench.specs.Standing.{Taken, Stands, Allowed, AcceptedAsTold, StandingLaws, well}
 use Rattle.bench.specs.Standing.Fact.{coupled, claimed, listed}
 use Rattle.bench.proofs.Runs.{met, stands}
 use Rattle.bench.proofs.Sound.{run_sound}

@@ -1,8 +1,7 @@
 -- What a call that was carried out, or refused, does to the facts.
-use Rattle.std.proofs.Common.{◌≡◌, ℕ, ◌≤◌, true, false, eqb, List, [], ◌++◌, length, get_or, take, set, replicate, Some, None, Option, sym, refl, ap, ◌∙◌, arith}
+use Rattle.std.proofs.Common.{◌≡◌, ℕ, ◌≤◌, false, eqb, List, [], ◌++◌, length, get_or, take, set, replicate, Some, None, Option, sym, refl, ap, ◌∙◌, arith}
 use Rattle.std.proofs.lemmas.List.{take_at}
 use Rattle.train.specs.declared.identity.Identity.{Identity}
-use Rattle.train.specs.declared.name.Name.{Name}
 use Rattle.train.specs.declared.entries.Coupled.{Coupled}
 use Rattle.train.specs.declared.facing.Facing.{Facing}
 use Rattle.bench.specs.declared.claims.Claim.{Claim}

@@ -1,16 +1,12 @@
 -- The facts after a run are exactly those that stand in it.
-use Rattle.std.proofs.Common.{◌≡◌, ℕ, ◌+◌, ◌<◌, ◌≤◌, Bool, true, false, cond, not, ◌&&◌, eqb, leb, ◌⊎◌, ◌↔◌, List, [], ◌∷◌, ◌++◌, length, Some, None, Option, sym, refl, ap, ◌∙◌, subst, ap₂, inl, inr, append_assoc, append-nil, arith}
-use Rattle.std.proofs.lemmas.Bool.Decides.{not_from_Decides, nat_tests}
+use Rattle.std.proofs.Common.{◌≡◌, ℕ, ◌≤◌, Bool, true, false, eqb, leb, ◌⊎◌, ◌↔◌, List, [], ◌∷◌, ◌++◌, length, Some, None, Option, sym, refl, ap, ◌∙◌, subst, ap₂, inl, inr, append_assoc, append-nil, arith}
+use Rattle.std.proofs.lemmas.Bool.Decides.{not_from_Decides}
 use Rattle.std.proofs.lemmas.Bool.{and_parts, leb-true, eqb-true, eqb-false, cases_Bool}
 use Rattle.train.specs.declared.identity.Identity.{Identity}
-use Rattle.train.specs.declared.name.Name.{Name}
-use Rattle.train.specs.declared.entries.Coupled.{Coupled}
 use Rattle.train.specs.declared.facing.Facing.{Facing}
 use Rattle.train.specs.declared.facing.Facing.TheVariants.{NotKnown, Direct, Inverse}
 use Rattle.train.specs.Facings.{code}
 use Rattle.train.specs.Identities.{same_identity}
-use Rattle.train.specs.Names.{every}
-use Rattle.train.specs.Refusals.{Check}
 use Rattle.std.specs.List.{AllByRecursion as All}
 use Rattle.train.proofs.Names.{every_decides}
 use Rattle.train.proofs.Equal.{same_identity_decides}
@@ -18,7 +14,7 @@ use Rattle.bench.specs.declared.claims.Claim.{Claim}
 use Rattle.bench.specs.Calls.{Call}
 use Rattle.bench.specs.Calls.Call.{inaugurate, claim, yield, confirm, withdraw}
 use Rattle.bench.specs.Facts.{Facts, nothing, after_all, after, done, accepted, checks, put, within, directed}
-use Rattle.bench.specs.Standing.{Fact, setting, Taken, Ends, Untouched, Stands, Holds, StandingLaws}
+use Rattle.bench.specs.Standing.{Fact, setting, Taken, Ends, Untouched, Stands, Holds}
 use Rattle.bench.specs.Standing.Fact.{coupled, claimed, listed}
 
 nowhere : {X : Type 0} → ◌≡◌ {A = ℕ} 0 1 → X

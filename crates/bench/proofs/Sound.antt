@@ -1,21 +1,18 @@
 -- What is true of the facts after every run.
-use Rattle.std.proofs.Common.{◌≡◌, ℕ, ◌^◌, ◌<◌, ◌≤◌, Bool, true, false, cond, not, ◌&&◌, eqb, ltb, leb, ◌⊎◌, List, [], ◌∷◌, ◌++◌, length, Some, None, Option, sym, refl, ap, ◌∙◌, subst, inl, inr, arith}
+use Rattle.std.proofs.Common.{◌≡◌, ℕ, ◌^◌, ◌<◌, ◌≤◌, Bool, true, false, eqb, ltb, leb, ◌⊎◌, List, [], ◌∷◌, ◌++◌, length, Some, None, sym, refl, ap, ◌∙◌, subst, inl, inr, arith}
 use Rattle.std.specs.List.{AllByRecursion as All}
 use Rattle.std.specs.Str.{bytes_eq}
-use Rattle.std.proofs.lemmas.Bool.{and_parts, leb-true, ltb-true, cases_Bool, eqb-true, eqb-false}
+use Rattle.std.proofs.lemmas.Bool.{and_parts, leb-true, ltb-true, cases_Bool, eqb-false}
 use Rattle.train.specs.declared.identity.Identity.{Identity}
-use Rattle.train.specs.declared.name.Name.{Name}
-use Rattle.train.specs.declared.entries.Coupled.{Coupled}
 use Rattle.train.specs.Facings.{known}
-use Rattle.train.specs.Identities.{is_identity, is_counter, same_identity}
-use Rattle.train.specs.Names.{every, well_formed}
+use Rattle.train.specs.Identities.{is_identity, same_identity}
+use Rattle.train.specs.Names.{well_formed}
 use Rattle.train.specs.Refusals.{keeps, alone, fresh, by}
-use Rattle.train.proofs.Names.{every_decides}
 use Rattle.train.proofs.Equal.{same_identity_decides}
 use Rattle.bench.specs.declared.claims.Claim.{Claim}
 use Rattle.bench.specs.Calls.{Call}
 use Rattle.bench.specs.Calls.Call.{inaugurate, claim, yield, confirm, withdraw}
-use Rattle.bench.specs.Facts.{Facts, nothing, after_all, after, done, accepted, put, within, directed, coupled_in, some}
+use Rattle.bench.specs.Facts.{Facts, nothing, after_all, after, done, accepted, put, within, directed, coupled_in}
 use Rattle.bench.proofs.Runs.{met, accepted_does, refused_leaves}
 
 pub record Sound (f : Facts) : Type 0 where

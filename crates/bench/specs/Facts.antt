@@ -1,5 +1,5 @@
 -- The facts that stand on a bench, and what each call does to them.
-use Rattle.std.specs.Prelude.{◌≡◌, ℕ, ◌<◌, Bool, true, false, cond, not, ◌&&◌, List, [], ◌∷◌, ◌++◌, length, take, is_some, Some, None, Option, ◌==◌, nat_le, slice_index_or}
+use Rattle.std.specs.Prelude.{◌≡◌, ℕ, ◌<◌, Bool, true, false, cond, ◌&&◌, List, [], ◌∷◌, ◌++◌, length, take, is_some, Some, None, Option, ◌==◌, nat_le, slice_index_or}
 use Rattle.std.specs.Str.{bytes_eq}
 use Rattle.train.specs.declared.identity.Identity.{Identity}
 use Rattle.train.specs.declared.name.Name.{Name}
@@ -10,7 +10,7 @@ use Rattle.train.specs.declared.refusal.Reason.TheVariants.{IdentityOrder, ZeroC
 use Rattle.train.specs.Facings.{known}
 use Rattle.train.specs.Identities.{is_identity, is_counter, same_identity}
 use Rattle.train.specs.Names.{every, well_formed}
-use Rattle.train.specs.Refusals.{Check, must, each, alone, among, fresh, by}
+use Rattle.train.specs.Refusals.{Check, must, each, alone, fresh, by}
 use Rattle.bench.specs.declared.claims.Claim.{Claim}
 use Rattle.bench.specs.Calls.{Call}
 use Rattle.bench.specs.Calls.Call.{inaugurate, claim, yield, confirm, withdraw}

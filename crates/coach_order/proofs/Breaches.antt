@@ -1,10 +1,10 @@
 -- Rules for the entries of a list: seen through a function, and where the first breach stands.
-use Rattle.std.proofs.Common.{◌≡◌, ℕ, ◌+◌, ◌≤◌, Bool, true, false, cond, not, ◌&&◌, ◌||◌, List, [], ◌∷◌, ◌++◌, map, length, Some, None, Option, sym, refl, ap, ◌∙◌, ap₂, arith, length-append}
+use Rattle.std.proofs.Common.{◌≡◌, ℕ, ◌+◌, ◌≤◌, Bool, true, false, cond, ◌&&◌, ◌||◌, List, [], ◌∷◌, ◌++◌, map, length, Some, None, Option, sym, refl, ap, ◌∙◌, ap₂, arith, length-append}
 use Rattle.std.proofs.lemmas.List.{map-append, length-map}
 use Rattle.train.specs.declared.refusal.Part.{Part}
 use Rattle.train.specs.declared.refusal.Refusal.{Refusal}
 use Rattle.train.specs.Names.{every}
-use Rattle.train.specs.Refusals.{Check, Rule, among, by, keeps, first_breach, breach, or_else, refusal}
+use Rattle.train.specs.Refusals.{Check, Rule, among, by, keeps, first_breach, or_else, refusal}
 
 -- a check that is met decides nothing
 pub ok_first : (p : Part) (c : Check) (cs : List Check) → c.ok ≡ true → refusal p (c ∷ cs) ≡ refusal p cs

@@ -1,5 +1,5 @@
 -- All consists of a fleet, composed: the vehicles from the head are those of the fleet, one after another.
-use Rattle.std.proofs.Common.{◌≡◌, ℕ, ◌+◌, true, List, [], ◌∷◌, ◌++◌, map, Some, None, Option, sym, refl, ap, ◌∙◌, ap₂}
+use Rattle.std.proofs.Common.{◌≡◌, ℕ, ◌+◌, true, List, [], ◌∷◌, ◌++◌, map, Some, None, refl, ap, ◌∙◌, ap₂}
 use Rattle.std.specs.List.{AllByRecursion as All}
 use Rattle.std.proofs.lemmas.List.{map-append}
 use Rattle.train.specs.declared.entries.Coupled.{Coupled}
@@ -9,7 +9,6 @@ use Rattle.train.specs.Octets.{below}
 use Rattle.fleet.specs.Fleets.{Meaning, vehicles_of}
 use Rattle.fleet.specs.Books.{Item, meaning_of, vehicles_in, Rising}
 use Rattle.fleet.specs.Halves.{same_self, below_apart}
-use Rattle.directory.specs.declared.cars.Car.{Car}
 use Rattle.directory.specs.Cars.{met, turned_car, cars, stretch, train}
 use Rattle.directory.specs.Operation.{Lead, leads, orient, operational}
 use Rattle.coach_order.specs.Orders.{direct, formation_of, facts_of, vehicle_of}

@@ -1,23 +1,21 @@
 -- The refusals of inaugurate and compose for all consists of a fleet, each direct, in plain words.
-use Rattle.std.proofs.Common.{◌≡◌, ℕ, ◌+◌, ◌-◌, ◌*◌, ◌<◌, ◌≤◌, Bool, true, false, cond, not, ◌&&◌, ◌||◌, eqb, leb, ◌⊎◌, List, [], ◌∷◌, ◌++◌, map, length, get_or, is_some, Some, None, Option, sym, refl, ap, ◌∙◌, subst, ap₂, inl, inr, arith}
+use Rattle.std.proofs.Common.{◌≡◌, ℕ, ◌+◌, ◌-◌, ◌≤◌, Bool, true, false, not, ◌&&◌, ◌||◌, eqb, leb, List, [], ◌∷◌, ◌++◌, map, length, get_or, is_some, Some, None, Option, sym, refl, ap, ◌∙◌, ap₂, inl, inr, arith}
 use Rattle.std.specs.List.{AllByRecursion as All}
 use Rattle.std.specs.Str.{bytes_eq}
-use Rattle.std.proofs.ByRecursion.{All-append, All-get_or, All-map, All-weaker}
+use Rattle.std.proofs.ByRecursion.{All-append, All-get_or, All-weaker}
 use Rattle.std.proofs.lemmas.List.{length-map, get_or_append_left, get_or-append_right, length-append}
-use Rattle.std.proofs.lemmas.Bool.{and_parts, and_from, leb-true, leb-false, le-leb, lt-leb, cases_Bool, cases_lt, cond-true, cond-false}
+use Rattle.std.proofs.lemmas.Bool.{and_parts, and_from, leb-true, le-leb, lt-leb, cases_Bool, cases_lt, cond-true, cond-false}
 use Rattle.train.specs.declared.entries.Coupled.{Coupled}
 use Rattle.train.specs.declared.entries.Vehicle.{Vehicle}
-use Rattle.train.specs.declared.facing.Facing.TheVariants.{Direct}
 use Rattle.train.specs.declared.identity.Identity.{Identity}
 use Rattle.train.specs.declared.refusal.Part.TheVariants.{Text, Bench, Composing}
-use Rattle.train.specs.declared.refusal.Place.TheVariants.{At}
 use Rattle.train.specs.declared.refusal.Reason.TheVariants.{ConsistCount, VehicleCount, IdentityOrder, ZeroCounter, EntryCount, UnknownFacing, Repeated, NoFormation, ConsistAbsent, TrainLength, SharedName, SeveralClaims, ClaimBeyond, ListOrder, InsertedInside}
 use Rattle.train.specs.declared.refusal.Refusal.{Refusal}
 use Rattle.train.specs.Facings.{known}
 use Rattle.train.specs.Identities.{is_identity, is_counter, same_identity}
 use Rattle.train.specs.Names.{every}
 use Rattle.train.specs.Octets.{below, zeros}
-use Rattle.train.specs.Refusals.{Check, must, each, alone, fresh, by, among, keeps, first_breach, breach, or_else, refusal, refused_at}
+use Rattle.train.specs.Refusals.{Check, must, each, alone, fresh, by, keeps, first_breach, breach, or_else, refusal, refused_at}
 use Rattle.train.proofs.Bytes.{below_strict}
 use Rattle.train.proofs.Rules.{refusal-joined}
 use Rattle.fleet.specs.Fleets.{Meaning, Pairs, vehicles_of}
@@ -33,7 +31,7 @@ use Rattle.directory.specs.Cars.{cars, stretch, train}
 use Rattle.directory.specs.Operation.{Lead, leads, from_head, operational, strange}
 use Rattle.directory.specs.Composing.{has, in_reach, inserted, car_of, split, parted, consist_at}
 use Rattle.directory.specs.Composing as composing
-use Rattle.directory.specs.Sections.{nobody, firsts, place, size}
+use Rattle.directory.specs.Sections.{nobody, place, size}
 use Rattle.directory.proofs.Loads.{length-cars}
 use Rattle.directory.proofs.Runs.{firsts_few}
 use Rattle.directory.proofs.Vocabulary.{keeps_alone}
@@ -155,22 +153,22 @@ module _ (is : List Item) (f : IsFleet is) where
   long : length tr ≡ length (vehicles_in is)
   long = sym (length-map tr vehicle_of) ∙ ap length told
 
-  same_rule : (before : List Car) (c : Car) → composing.freshName before c ≡ fresh_name (map vehicle_of before) (vehicle_of c)
+  same_rule : (before : List Car) (c : Car) → composing.fresh_name before c ≡ fresh_name (map vehicle_of before) (vehicle_of c)
   same_rule before c = ap not (among-map bytes_eq vehicle_of (λ v. v.name.bytes) c before)
 
-  same_keeps : keeps composing.freshName [] tr ≡ keeps fresh_name [] (vehicles_in is)
-  same_keeps = keeps-map vehicle_of composing.freshName fresh_name same_rule [] tr ∙ ap (λ (vs : List Vehicle). keeps fresh_name [] vs) told
+  same_keeps : keeps composing.fresh_name [] tr ≡ keeps fresh_name [] (vehicles_in is)
+  same_keeps = keeps-map vehicle_of composing.fresh_name fresh_name same_rule [] tr ∙ ap (λ (vs : List Vehicle). keeps fresh_name [] vs) told
 
-  same_breach : first_breach composing.freshName [] tr ≡ first_breach fresh_name [] (vehicles_in is)
-  same_breach = breach-map vehicle_of composing.freshName fresh_name same_rule [] tr ∙ ap (λ (vs : List Vehicle). first_breach fresh_name [] vs) told
+  same_breach : first_breach composing.fresh_name [] tr ≡ first_breach fresh_name [] (vehicles_in is)
+  same_breach = breach-map vehicle_of composing.fresh_name fresh_name same_rule [] tr ∙ ap (λ (vs : List Vehicle). first_breach fresh_name [] vs) told
 
-  names_plainly : breach Composing (composing.namesApart (formation_of is) tr) ≡ breach Composing (named_apart is)
+  names_plainly : breach Composing (composing.names_apart (formation_of is) tr) ≡ breach Composing (named_apart is)
   names_plainly =
       elim (cases_Bool (keeps fresh_name [] (vehicles_in is))) [
         | inl t ↦ cond-true _ None _ (same_keeps ∙ t) ∙ sym (cond-true _ None _ t)
         | inr n ↦
-            let p : ℕ = first_breach composing.freshName [] tr in
-            let w = breach_within composing.freshName [] tr (same_keeps ∙ n) in
+            let p : ℕ = first_breach composing.fresh_name [] tr in
+            let w = breach_within composing.fresh_name [] tr (same_keeps ∙ n) in
             let a = w.0 in
             let b = w.1 in
             let q = held_in m (strange (record { bytes = zeros })) 1 is p f.rising meant (omega arith) (omega arith) ∙ ap (holder 1 is) same_breach in
@@ -185,7 +183,7 @@ module _ (is : List Item) (f : IsFleet is) where
   late =
       must (leb (length (leads (λ _. None) (formation_of is))) 1) SeveralClaims
       ∷ each (alone (in_reach m (λ _. None))) ClaimBeyond (formation_of is)
-      ∷ (composing.orderChecks [] (from_head (facts_of is) m) ++ composing.room_check (facts_of is) m 4303 ∷ [])
+      ∷ (composing.order_checks [] (from_head (facts_of is) m) ++ composing.room_check (facts_of is) m 4303 ∷ [])
 
   -- the claims and the confirmed list, of which there are none, and the room, which is enough
   late_met : length is ≤ 63 → length tr ≤ 63 → refusal Composing late ≡ None
@@ -210,7 +208,7 @@ module _ (is : List Item) (f : IsFleet is) where
       let formed = length-map is direct in
       let lacks : Check = each (alone (has m)) ConsistAbsent es in
       let count : Check = must (leb (length tr) 63) TrainLength in
-      let apart : Check = composing.namesApart es tr in
+      let apart : Check = composing.names_apart es tr in
       let rest : Option Refusal = or_else (breach Composing apart) (refusal Composing late) in
       ok_first Composing (must (leb 1 (length es)) NoFormation) (lacks ∷ count ∷ apart ∷ late) (le-leb 1 (length es) (omega arith))
       ∙ ok_first Composing lacks (count ∷ apart ∷ late) (keeps_alone (has m) [] es ∙ present is meant)

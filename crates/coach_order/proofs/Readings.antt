@@ -1,5 +1,5 @@
 -- Sections and rows, as they are cut from bytes.
-use Rattle.std.proofs.Common.{◌≡◌, ℕ, zero, suc, ◌+◌, ◌-◌, ◌*◌, ◌<◌, ◌≤◌, List, [], length, get_or, take, drop, sym, refl, ap, ◌∙◌, suc-mul, mul_comm, add_comm, arith}
+use Rattle.std.proofs.Common.{◌≡◌, ℕ, zero, suc, ◌+◌, ◌-◌, ◌*◌, ◌<◌, List, [], length, get_or, take, drop, sym, ap, ◌∙◌, suc-mul, mul_comm, add_comm, arith}
 use Rattle.std.proofs.lemmas.List.{drop-drop, take_rest}
 use Rattle.train.specs.declared.entries.Vehicle.{Vehicle}
 use Rattle.fleet.specs.Rows.{rows}

@@ -1,5 +1,5 @@
 -- What the checks of a coupled fleet say of its composition, and the answer of the whole call.
-use Rattle.std.proofs.Common.{◌≡◌, ℕ, ◌-◌, ◌≤◌, true, leb, ◌⊎◌, List, [], ◌∷◌, ◌++◌, map, length, get_or, take, drop, Some, None, Ok, Err, Option, Result, sym, refl, ap, ◌∙◌, subst, inl, inr, arith, MatchResult}
+use Rattle.std.proofs.Common.{◌≡◌, ℕ, ◌-◌, ◌≤◌, true, ◌⊎◌, List, [], ◌∷◌, length, get_or, take, drop, Some, None, Ok, Err, Option, Result, sym, ap, ◌∙◌, subst, inl, inr, arith, MatchResult}
 use Rattle.std.specs.List.{AllByRecursion as All}
 use Rattle.std.proofs.lemmas.List.{take_at}
 use Rattle.std.proofs.lemmas.Bool.{leb-true}
@@ -10,17 +10,15 @@ use Rattle.train.specs.Refusals.{Check, or_else, refusal, refusal_of}
 use Rattle.train.proofs.Names.{every_decides}
 use Rattle.train.proofs.Rules.{all_met}
 use Rattle.fleet.specs.Fleets.{Meaning}
-use Rattle.fleet.specs.Books.{Item, IsFleet, IsBook, Opened, meaning_of, vehicles_in, book_of}
+use Rattle.fleet.specs.Books.{Item, IsFleet, IsBook, meaning_of, vehicles_in, book_of}
 use Rattle.fleet.specs.Means.{meant_lawful}
 use Rattle.fleet_list.specs.Imports.{Carried, Unmet, Decided as ImportDecided, list_checks}
 use Rattle.fleet_list.specs.Lists.{IsLine, list_text}
 use Rattle.fleet_list.specs.Readings.{Broken}
-use Rattle.fleet_list.specs.Writes.{Written as BookWritten}
 use Rattle.fleet_list.proofs.Back.{apart}
 use Rattle.bench.specs.Calls.{Call}
 use Rattle.bench.specs.Facts.{Facts, nothing}
 use Rattle.bench.proofs.Acts.{taken_does}
-use Rattle.directory.specs.declared.cars.Car.{Car}
 use Rattle.directory.specs.Composing.{checks}
 use Rattle.directory.specs.Operation.{operational}
 use Rattle.directory.specs.Part.{vehicles}
@@ -28,8 +26,8 @@ use Rattle.directory.specs.Sections.{composition}
 use Rattle.directory.specs.Written.{Written}
 use Rattle.directory.proofs.Kept.{Kept, run_keeps}
 use Rattle.directory.proofs.Fine.{fine}
-use Rattle.coach_order.specs.Orders.{formation_of, facts_of, inaugurated, composed, uncoupled, vehicle_of}
-use Rattle.coach_order.specs.Ordered.{Lists, Laid, Uncoupled, Refused, Ordered, Decided}
+use Rattle.coach_order.specs.Orders.{formation_of, facts_of, inaugurated, composed, uncoupled}
+use Rattle.coach_order.specs.Ordered.{Lists, Refused, Ordered, Decided}
 use Rattle.coach_order.specs.Plain.{plainly}
 use Rattle.coach_order.specs.Reads.{Sections, vehicles_read}
 use Rattle.coach_order.proofs.Composed.{head_first, order_told}

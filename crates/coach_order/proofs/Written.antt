@@ -1,16 +1,14 @@
 -- The operational vehicles, read back from a written composition.
-use Rattle.std.proofs.Common.{◌≡◌, ℕ, suc, ◌+◌, ◌*◌, ◌≤◌, Bool, true, false, cond, List, [], ◌∷◌, ◌++◌, map, length, get_or, take, drop, unwrap_or, sym, refl, ap, ◌∙◌, subst, ap₂, mul-suc, arith, length-append}
+use Rattle.std.proofs.Common.{◌≡◌, ℕ, ◌+◌, ◌*◌, ◌≤◌, Bool, true, false, cond, List, [], ◌∷◌, ◌++◌, map, length, get_or, take, drop, unwrap_or, sym, refl, ap, ◌∙◌, subst, ap₂, mul-suc, arith, length-append}
 use Rattle.std.specs.List.{AllByRecursion as All}
 use Rattle.std.proofs.lemmas.List.{take_at, drop_at, get_or-append_right, append-nil}
 use Rattle.train.specs.declared.entries.Vehicle.{Vehicle}
 use Rattle.train.specs.declared.facing.Facing.{Facing}
 use Rattle.train.specs.declared.facing.Facing.TheVariants.{NotKnown, Direct, Inverse}
 use Rattle.train.specs.declared.identity.Identity.{Identity}
-use Rattle.train.specs.declared.name.Name.{Name}
 use Rattle.train.specs.Facings.{code, coded}
 use Rattle.train.specs.Identities.{same_identity}
 use Rattle.fleet.specs.Fleets.{Meaning}
-use Rattle.fleet.specs.Rows.{rows as cut}
 use Rattle.bench.specs.Facts.{Facts}
 use Rattle.directory.specs.declared.cars.Car.{Car}
 use Rattle.directory.specs.Operation.{operational}

@@ -1,7 +1,7 @@
 -- What is written from the front on, one part behind another.
 use Rattle.std.proofs.Common.{◌≡◌, ℕ, ◌+◌, ◌-◌, ◌<◌, ◌≤◌, List, [], ◌∷◌, ◌++◌, length, take, drop, set, sym, refl, ap, ◌∙◌, subst, append_assoc, arith}
 use borrow.Rule.Slice.PartMut.{put_mid}
-use Rattle.std.proofs.lemmas.List.{take_at, drop_at, drop-drop, drop_more, set-append_right, drop_all, length-drop, length-append, take_rest, take_all, append-nil}
+use Rattle.std.proofs.lemmas.List.{take_at, drop_at, drop-drop, drop_all, length-drop, length-append, take_all, append-nil}
 use Rattle.directory.specs.Written.{Written}
 
 sums : {a b n m : ℕ} → a ≡ n → b ≡ m → a + b ≡ n + m

@@ -1,5 +1,5 @@
 -- The tables and the written bytes are the composition; and the checks in their order.
-use Rattle.std.proofs.Common.{◌≡◌, ℕ, zero, suc, ◌+◌, ◌-◌, ◌*◌, ◌<◌, ◌≤◌, Bool, true, false, cond, leb, List, [], ◌∷◌, ◌++◌, map, length, take, Some, None, Option, sym, refl, ap, ◌∙◌, subst, ap₂, arith}
+use Rattle.std.proofs.Common.{◌≡◌, ℕ, zero, suc, ◌+◌, ◌-◌, ◌*◌, ◌<◌, ◌≤◌, true, false, leb, List, [], ◌∷◌, ◌++◌, map, length, take, Some, None, Option, sym, refl, ap, ◌∙◌, ap₂, arith}
 use Rattle.std.proofs.lemmas.List.{length-map}
 use Rattle.std.proofs.lemmas.Bool.{le-leb, lt-leb, cond-true, cond-false}
 use Rattle.train.specs.declared.entries.Coupled.{Coupled}
@@ -17,14 +17,13 @@ use Rattle.directory.specs.declared.rows.ConsistRow.{ConsistRow}
 use Rattle.directory.specs.declared.rows.VehicleRow.{VehicleRow}
 use Rattle.directory.specs.declared.writing.Head.{Head}
 use Rattle.directory.specs.Cars.{train, met, turned_car}
-use Rattle.directory.specs.Operation.{orientation, from_head, ordered, operational}
+use Rattle.directory.specs.Operation.{orientation, from_head, operational}
 use Rattle.directory.specs.Composing.{checks, formation_checks, train_checks, order_checks, room_check}
 use Rattle.directory.specs.Rows.{train_row, consist_row, vehicle_row, train_row_of, consist_row_of, vehicle_row_of}
-use Rattle.directory.specs.Sections.{section, rows, firsts, seats, nobody, status, size, composition, entry_row, train_part, operational_part}
+use Rattle.directory.specs.Sections.{section, firsts, seats, nobody, status, size, composition, entry_row, train_part}
 use Rattle.directory.specs.Whole.{whole_of}
 use Rattle.directory.specs.Written.{Written}
 use Rattle.directory.proofs.Behind.{front}
-use Rattle.directory.proofs.Loads.{length-met}
 use Rattle.directory.proofs.Runs.{length-seats}
 use Rattle.directory.proofs.Sections.{rows-map}
 

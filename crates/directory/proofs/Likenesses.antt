@@ -1,10 +1,9 @@
 -- Two answers, compared.
-use Rattle.std.proofs.Common.{◌≡◌, ℕ, ◌-◌, ◌≤◌, Bool, true, false, ◌&&◌, List, length, take, IfOk, Some, None, Ok, Err, Decides, Result, sym, refl, ap, ◌∙◌, subst, arith}
+use Rattle.std.proofs.Common.{◌≡◌, ℕ, ◌-◌, ◌≤◌, Bool, true, false, ◌&&◌, List, length, take, IfOk, Some, Ok, Err, Decides, Result, sym, refl, ap, ◌∙◌, subst, arith}
 use Rattle.std.specs.Str.{bytes_eq}
 use Rattle.std.proofs.lemmas.Slice.Eq.{bytes_eq-Decides}
 use Rattle.train.specs.declared.refusal.Refusal.{Refusal}
 use Rattle.directory.specs.declared.comparing.Likeness.{Likeness}
-use Rattle.directory.specs.declared.comparing.LeadingEnds.{LeadingEnds}
 use Rattle.directory.specs.Compared.{seen, Answered, ends_of, Ends, IsLikeness, Likened}
 use Rattle.directory.specs.Law.{IsFleet, Side, Led}
 use Rattle.directory.specs.Part.{leading_part, Sections}

@@ -1,6 +1,6 @@
 -- Rows one behind another.
 use Rattle.std.proofs.Common.{◌≡◌, ℕ, suc, ◌+◌, ◌-◌, ◌*◌, ◌<◌, ◌≤◌, List, [], ◌∷◌, ◌++◌, map, length, get_or, take, drop, sym, refl, ap, ◌∙◌, append_assoc, mul-le-mul_left, mul-one, mul-add, arith}
-use Rattle.std.proofs.lemmas.List.{take_more, take_all, append-nil, length-take-le}
+use Rattle.std.proofs.lemmas.List.{take_more, append-nil, length-take-le}
 use Rattle.directory.specs.Sections.{rows}
 use Rattle.directory.specs.Written.{Written}
 use Rattle.directory.proofs.Behind.{room_left}

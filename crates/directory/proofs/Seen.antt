@@ -1,14 +1,13 @@
 -- The answer of composing a run, read from its buffer.
-use Rattle.std.proofs.Common.{◌≡◌, ℕ, List, ◌++◌, length, take, drop, Some, None, Ok, Err, Result, sym, refl, ap, ◌∙◌, MatchResult}
+use Rattle.std.proofs.Common.{◌≡◌, ℕ, List, ◌++◌, length, take, drop, Ok, Err, Result, sym, ap, ◌∙◌, MatchResult}
 use Rattle.std.proofs.lemmas.List.{take_at}
 use Rattle.train.specs.declared.refusal.Refusal.{Refusal}
 use Rattle.train.specs.declared.refusal.Part.TheVariants.{Composing}
 use Rattle.train.specs.Refusals.{refusal, refusal_of}
-use Rattle.fleet.specs.Fleets.{Meaning}
 use Rattle.bench.specs.Facts.{Facts}
 use Rattle.directory.specs.Composing.{Outcome, checks, outcome, composed_into}
 use Rattle.directory.specs.Sections.{composition}
-use Rattle.directory.specs.Compared.{seen, Answered}
+use Rattle.directory.specs.Compared.{Answered}
 use Rattle.directory.specs.Law.{Side, facts}
 use Rattle.directory.specs.Written.{Written}
 

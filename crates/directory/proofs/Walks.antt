@@ -1,12 +1,10 @@
 -- Loops over cars and entries: what is left gives the answer.
-use Rattle.std.proofs.Common.{◌≡◌, ℕ, ◌+◌, ◌-◌, ◌<◌, ◌≤◌, Bool, true, false, cond, ◌&&◌, ◌||◌, List, [], ◌∷◌, ◌++◌, length, get_or, take, drop, is_some, Some, None, Option, sym, refl, ap, ◌∙◌, arith}
-use Rattle.std.proofs.lemmas.List.{drop_more, drop_all, length-append, at_drop_more, at_drop_all, take_rest, get_or_default}
+use Rattle.std.proofs.Common.{◌≡◌, ℕ, ◌+◌, ◌-◌, ◌<◌, ◌≤◌, Bool, true, false, cond, ◌||◌, List, [], ◌∷◌, ◌++◌, length, get_or, take, drop, is_some, Some, None, Option, sym, refl, ap, ◌∙◌, arith}
+use Rattle.std.proofs.lemmas.List.{length-append, at_drop_more, at_drop_all, take_rest, get_or_default}
 use Rattle.train.specs.declared.identity.Identity.{Identity}
-use Rattle.train.specs.declared.facing.Facing.{Facing}
 use Rattle.train.specs.Facings.{composed}
 use Rattle.train.specs.declared.entries.Coupled.{Coupled}
 use Rattle.bench.specs.declared.claims.Claim.{Claim}
-use Rattle.train.specs.declared.facing.Facing.TheVariants.{NotKnown}
 use Rattle.directory.specs.declared.cars.Car.{Car}
 use Rattle.train.specs.declared.name.Name.{Name}
 use Rattle.train.specs.declared.refusal.Part.{Part}

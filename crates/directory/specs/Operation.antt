@@ -1,5 +1,5 @@
 -- The operational order: from the head of the train, with a confirmed list and its inserted vehicles.
-use Rattle.std.specs.Prelude.{Bool, cond, List, [], ◌∷◌, map, Some, None, Option}
+use Rattle.std.specs.Prelude.{cond, List, [], ◌∷◌, map, Some, None, Option}
 use Rattle.std.specs.List.{flat_map}
 use Rattle.train.specs.declared.identity.Identity.{Identity}
 use Rattle.train.specs.declared.name.Name.{Name}

@@ -1,5 +1,5 @@
 -- The answers to an announcement, from what the seats showed.
-use Rattle.std.proofs.Common.{◌≡◌, ℕ, Bool, true, false, not, List, [], ◌∷◌, ◌++◌, length, is_some, Some, None, Option, sym, refl, ap, ◌∙◌, ap₂}
+use Rattle.std.proofs.Common.{◌≡◌, ℕ, Bool, true, not, List, [], ◌∷◌, length, is_some, Some, None, Option, sym, ap, ◌∙◌}
 use Rattle.train.specs.declared.entries.Vehicle.{Vehicle}
 use Rattle.train.specs.declared.identity.Identity.{Identity}
 use Rattle.train.specs.declared.refusal.Part.TheVariants.{Roster}

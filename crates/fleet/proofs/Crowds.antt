@@ -1,5 +1,5 @@
 -- No identity has two seats, and what it is for a roster to be full.
-use Rattle.std.proofs.Common.{◌≡◌, ℕ, zero, suc, ◌+◌, ◌-◌, ◌<◌, ◌≤◌, Bool, true, false, cond, not, ◌&&◌, ◌||◌, eqb, ◌⊎◌, List, [], ◌∷◌, ◌++◌, map, length, set, is_some, Some, None, Decides, Option, sym, refl, ap, ◌∙◌, ap₂, inl, inr, arith}
+use Rattle.std.proofs.Common.{◌≡◌, ℕ, zero, suc, ◌+◌, ◌<◌, ◌≤◌, Bool, true, false, cond, not, ◌&&◌, ◌||◌, List, [], ◌∷◌, map, length, set, is_some, Some, None, Decides, Option, sym, refl, ap, ◌∙◌, inl, inr, arith}
 use Rattle.std.specs.List.{AllByRecursion as All}
 use Rattle.std.specs.Str.{bytes_eq}
 use Rattle.std.proofs.ByRecursion.{All-weaker, All-map}
@@ -11,7 +11,7 @@ use Rattle.train.specs.Refusals.{or_else}
 use Rattle.train.proofs.Bytes.{nowhere}
 use Rattle.fleet.specs.declared.roster.Seat.{Seat}
 use Rattle.fleet.specs.Fleets.{Consist, Pairs}
-use Rattle.fleet.specs.Rosters.{same_id, announced, forgotten, Full}
+use Rattle.fleet.specs.Rosters.{same_id, announced, Full}
 use Rattle.fleet.specs.Seats.{used, is_free, is_here, consist_in, meaning_in, apart_seats, cleared, seat_of}
 use Rattle.fleet.specs.Seeks.{find}
 use Rattle.fleet.specs.Heads.{never}

@@ -1,16 +1,16 @@
 -- Rows of a book, and one row more in a loop over them.
-use Rattle.std.specs.Prelude.{◌≡◌, ℕ, zero, suc, ◌+◌, ◌-◌, ◌*◌, ◌<◌, ◌≤◌, Bool, true, false, cond, not, ◌&&◌, List, [], ◌∷◌, ◌++◌, length, take, drop, Some, None, Option, slice_index_or, refl}
+use Rattle.std.specs.Prelude.{◌≡◌, ℕ, zero, suc, ◌+◌, ◌*◌, ◌<◌, ◌≤◌, Bool, true, false, not, List, [], ◌∷◌, ◌++◌, length, take, drop, Some, None, Option, slice_index_or, refl}
 use Rattle.std.proofs.Common.{sym, ap, ap₂, ◌∙◌, arith, suc-mul, add_comm}
 use Rattle.std.specs.Str.{bytes_eq}
-use Rattle.std.proofs.lemmas.List.{drop_more, drop_all, drop-drop, take_more, at_drop_more, at_drop_all, get_or-take, get_or-drop, length-take-le, length-drop, take_all}
+use Rattle.std.proofs.lemmas.List.{drop_more, drop-drop, take_more, at_drop_more, at_drop_all, get_or-take, get_or-drop, length-take-le, length-drop, take_all}
 use Rattle.train.specs.declared.refusal.Part.TheVariants.{Book}
 use Rattle.train.specs.declared.refusal.Place.TheVariants.{At}
 use Rattle.train.specs.declared.refusal.Reason.{Reason}
 use Rattle.train.specs.declared.refusal.Reason.TheVariants.{Repeated}
 use Rattle.train.specs.declared.refusal.Refusal.{Refusal}
-use Rattle.train.specs.Refusals.{Check, Rule, each, each_behind, breach, or_else, refusal, among, fresh, by}
+use Rattle.train.specs.Refusals.{Rule, each, each_behind, breach, or_else, refusal, among, fresh, by}
 use Rattle.train.proofs.Rules.{each_past, each_here, each_all, among_past, among_here, among_none}
-use Rattle.fleet.specs.Rows.{rows, identity_of, size_of, name_of, last_identity, rises, ascending, sizes, further, behind, apart_checks}
+use Rattle.fleet.specs.Rows.{rows, identity_of, size_of, name_of, last_identity, rises, ascending, sizes, behind, apart_checks}
 
 module _ (w : ℕ) where
   pub length-rows : (n : ℕ) (bs : List ℕ) → length (rows w n bs) ≡ n

@@ -1,5 +1,5 @@
 -- A search by halving in rows whose identities rise.
-use Rattle.std.specs.Prelude.{◌≡◌, ℕ, zero, suc, ◌+◌, ◌-◌, ◌<◌, ◌≤◌, Bool, true, false, cond, not, ◌&&◌, ◌⊎◌, List, [], ◌∷◌, ◌++◌, length, Some, None, Option, ◌≢◌, slice_index_or, refl}
+use Rattle.std.specs.Prelude.{◌≡◌, ℕ, zero, suc, ◌+◌, ◌<◌, ◌≤◌, Bool, true, false, not, List, [], ◌∷◌, ◌++◌, length, Some, None, ◌≢◌, slice_index_or, refl}
 use Rattle.std.proofs.Common.{sym, ap, subst, ◌∙◌, inl, inr, arith}
 use Rattle.std.specs.List.{AllByRecursion as All}
 use Rattle.std.specs.Str.{bytes_eq}
@@ -9,7 +9,7 @@ use Rattle.std.proofs.lemmas.Bool.{and_parts, and_from, not-true, cases_eq, case
 use Rattle.std.proofs.lemmas.Bool.Decides.{not_from_Decides}
 use Rattle.train.specs.Octets.{below, zeros}
 use Rattle.train.specs.Refusals.{keeps}
-use Rattle.train.proofs.Bytes.{nowhere, below_trans, below_strict, below_total, below_anti}
+use Rattle.train.proofs.Bytes.{nowhere, below_trans, below_strict, below_total}
 use Rattle.fleet.specs.Fleets.{Pairs}
 use Rattle.fleet.specs.Rows.{identity_of, rises, last_identity, ascending}
 use Rattle.fleet.specs.Seeks.{find, is_at, place_of}

@@ -1,5 +1,5 @@
 -- What a book means at an identity, and its names.
-use Rattle.std.specs.Prelude.{◌≡◌, ℕ, zero, suc, ◌+◌, ◌-◌, ◌*◌, ◌<◌, ◌≤◌, Bool, true, false, cond, ◌⊎◌, List, [], ◌∷◌, ◌++◌, map, length, get_or, take, drop, Some, None, Option, ◌≢◌, slice_index_or, refl}
+use Rattle.std.specs.Prelude.{◌≡◌, ℕ, zero, suc, ◌+◌, ◌-◌, ◌*◌, ◌<◌, ◌≤◌, Bool, true, false, cond, List, [], ◌∷◌, ◌++◌, map, length, get_or, take, drop, Some, None, Option, ◌≢◌, slice_index_or, refl}
 use Rattle.std.proofs.Common.{sym, ap, ap₂, ◌∙◌, inl, inr, arith}
 use Rattle.std.specs.List.{AllByRecursion as All, slice_get}
 use Rattle.std.specs.Str.{bytes_eq}
@@ -14,7 +14,7 @@ use Rattle.train.specs.Octets.{below}
 use Rattle.train.proofs.Bytes.{below_trans, below_total}
 use Rattle.fleet.specs.declared.questions.Found.{Found}
 use Rattle.fleet.specs.Fleets.{Consist, Lawful, found_in, vehicles_of, vehicle_in}
-use Rattle.fleet.specs.Rows.{rows, identity_of, counter_of, size_of, name_of, sizes}
+use Rattle.fleet.specs.Rows.{rows, counter_of, size_of, name_of, sizes}
 use Rattle.fleet.specs.Seeks.{find, is_at, place_of}
 use Rattle.fleet.specs.Books.{count_of, entries_of, tail_of, total_of, table_of, Item, meaning_of, vehicle_of, item_of, listed, fleet_of, vehicles_in, name_in, name_at, IsItem, Rising}
 use Rattle.fleet.specs.Heads.{never}

@@ -1,6 +1,6 @@
 -- Numbers of two and of four bytes.
-use Rattle.std.specs.Prelude.{◌≡◌, ℕ, ◌+◌, ◌-◌, ◌*◌, ◌/◌, ◌%◌, ◌<◌, ◌≤◌, List, [], ◌∷◌, refl}
-use Rattle.std.proofs.Common.{sym, ap, ◌∙◌, arith}
+use Rattle.std.specs.Prelude.{◌≡◌, ℕ, ◌+◌, ◌*◌, ◌/◌, ◌%◌, ◌<◌, [], ◌∷◌}
+use Rattle.std.proofs.Common.{arith}
 use Rattle.fleet.specs.Books.{two, four}
 
 pub two_of : (a b : ℕ) → b < 256 → two (a * 256 + b) ≡ a ∷ b ∷ []

@@ -1,5 +1,5 @@
 -- What the rows of a book that passes its checks are read as; written again, they are the rows.
-use Rattle.std.specs.Prelude.{◌≡◌, ℕ, zero, suc, ◌+◌, ◌-◌, ◌*◌, ◌<◌, ◌≤◌, Bool, true, false, cond, not, ◌&&◌, ◌||◌, List, [], ◌∷◌, ◌++◌, map, length, take, drop, None, ◌==◌, ◌≢◌, nat_le, slice_index, refl}
+use Rattle.std.specs.Prelude.{◌≡◌, ℕ, suc, ◌+◌, ◌<◌, ◌≤◌, true, false, not, ◌&&◌, ◌||◌, List, [], ◌∷◌, ◌++◌, map, length, take, drop, None, ◌==◌, ◌≢◌, nat_le, slice_index, refl}
 use Rattle.std.proofs.Common.{sym, ap, ap₂, ◌∙◌, arith, drop-cons}
 use Rattle.std.specs.List.{AllByRecursion as All}
 use Rattle.std.specs.Str.{bytes_eq}
@@ -12,10 +12,10 @@ use Rattle.train.specs.Facings.{code, known}
 use Rattle.train.specs.Octets.{below, zeros}
 use Rattle.train.specs.Refusals.{refusal, keeps, each, fresh, by}
 use Rattle.train.proofs.Names.{name_rule}
-use Rattle.fleet.specs.Fleets.{Pairs, IsVehicle, Apart}
+use Rattle.fleet.specs.Fleets.{Pairs, IsVehicle}
 use Rattle.fleet.specs.Bytes.{Bytes}
 use Rattle.fleet.specs.Rows.{identity_of, counter_of, size_of, name_of, facing_byte, counted, sized, sizes, named, faced, behind, apart_checks}
-use Rattle.fleet.specs.Books.{Item, facing_of, vehicle_of, item_of, listed, four, vehicle_row, item_row, vehicles_in, IsItem, Rising}
+use Rattle.fleet.specs.Books.{facing_of, vehicle_of, item_of, listed, vehicle_row, item_row, vehicles_in, IsItem, Rising}
 use Rattle.fleet.specs.Numbers.{four_of}
 use Rattle.fleet.specs.Heads.{first_met}
 use Rattle.fleet.specs.Kept.{fresh_pairs, pairs_mapped}

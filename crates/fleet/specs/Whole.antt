@@ -1,5 +1,5 @@
 -- The bytes that are accepted are the books of fleets, and are read as those.
-use Rattle.std.specs.Prelude.{◌≡◌, ℕ, zero, suc, ◌+◌, ◌-◌, ◌*◌, ◌/◌, ◌%◌, ◌<◌, ◌≤◌, Bool, true, false, cond, not, ◌&&◌, ◌||◌, List, [], ◌∷◌, ◌++◌, map, length, drop, is_some, Some, None, Ok, Err, Option, Result, MatchResult, ◌==◌, nat_le, slice_index, slice_index_or, refl}
+use Rattle.std.specs.Prelude.{◌≡◌, ℕ, ◌+◌, ◌*◌, ◌<◌, ◌≤◌, true, false, List, [], ◌∷◌, ◌++◌, map, length, drop, is_some, Some, None, Option, ◌==◌, nat_le, slice_index, slice_index_or, refl}
 use Rattle.std.proofs.Common.{sym, ap, ap₂, subst, ◌∙◌, arith, drop-cons}
 use Rattle.std.specs.List.{AllByRecursion as All}
 use Rattle.std.specs.Str.{bytes_eq}
@@ -11,7 +11,7 @@ use Rattle.train.specs.declared.refusal.Part.TheVariants.{Book}
 use Rattle.train.specs.declared.refusal.Reason.TheVariants.{BookHead, ConsistCount, VehicleCount, IdentityOrder, ZeroCounter, EntryCount, VehicleSum, NameForm, UnknownFacing}
 use Rattle.train.specs.declared.refusal.Refusal.{Refusal}
 use Rattle.train.specs.Octets.{zeros}
-use Rattle.train.specs.Refusals.{refusal, refusal_of, keeps, must, each, alone, or_else}
+use Rattle.train.specs.Refusals.{refusal, keeps, must, each, alone, or_else}
 use Rattle.train.proofs.Rules.{refusal-joined}
 use Rattle.fleet.specs.Fleets.{Lawful}
 use Rattle.fleet.specs.Bytes.{Bytes, bytes_in}

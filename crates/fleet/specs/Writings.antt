@@ -1,24 +1,24 @@
 -- The rows that a fleet is written as pass the checks, and are read as that fleet.
-use Rattle.std.specs.Prelude.{◌≡◌, ℕ, zero, suc, ◌+◌, ◌-◌, ◌*◌, ◌<◌, ◌≤◌, Bool, true, false, cond, not, ◌&&◌, ◌||◌, List, [], ◌∷◌, ◌++◌, map, length, take, drop, replicate, None, ◌==◌, ◌≢◌, nat_le, slice_index, refl}
+use Rattle.std.specs.Prelude.{◌≡◌, ℕ, ◌+◌, ◌-◌, ◌≤◌, true, false, not, ◌&&◌, ◌||◌, List, [], ◌∷◌, ◌++◌, map, length, take, drop, replicate, None, ◌==◌, ◌≢◌, nat_le, slice_index, refl}
 use Rattle.std.proofs.Common.{sym, ap, ap₂, subst, ◌∙◌, arith}
 use Rattle.std.specs.List.{AllByRecursion as All}
 use Rattle.std.specs.Str.{bytes_eq}
 use Rattle.std.proofs.lemmas.List.{take_at, drop_at, length-append, length-map, map-append, get_or-append_right, length-replicate}
-use Rattle.std.proofs.ByRecursion.{All-append, All-weaker}
+use Rattle.std.proofs.ByRecursion.{All-append}
 use Rattle.std.proofs.lemmas.Bool.Decides.{nat_tests}
 use Rattle.train.specs.declared.entries.Vehicle.{Vehicle}
 use Rattle.train.specs.declared.facing.Facing.{Facing}
 use Rattle.train.specs.declared.facing.Facing.TheVariants.{NotKnown, Direct, Inverse}
 use Rattle.train.specs.declared.refusal.Part.TheVariants.{Book}
-use Rattle.train.specs.declared.refusal.Reason.TheVariants.{IdentityOrder, ZeroCounter, EntryCount, VehicleSum, NameForm, UnknownFacing, Repeated}
+use Rattle.train.specs.declared.refusal.Reason.TheVariants.{Repeated}
 use Rattle.train.specs.Facings.{code, known}
 use Rattle.train.specs.Names.{IsName, well_formed}
 use Rattle.train.specs.Octets.{below, zeros}
-use Rattle.train.specs.Refusals.{refusal, keeps, must, each, alone, fresh, by}
+use Rattle.train.specs.Refusals.{refusal, keeps, each, alone, fresh, by}
 use Rattle.train.proofs.Bytes.{nowhere}
 use Rattle.train.proofs.Names.{name_rule}
-use Rattle.fleet.specs.Fleets.{Consist, Pairs, IsVehicle, IsConsist, Apart}
-use Rattle.fleet.specs.Rows.{identity_of, counter_of, size_of, name_of, facing_byte, rises, ascending, counted, sized, sizes, named, faced, behind, apart_checks, entry_checks}
+use Rattle.fleet.specs.Fleets.{Pairs, IsVehicle, Apart}
+use Rattle.fleet.specs.Rows.{identity_of, counter_of, size_of, name_of, facing_byte, ascending, counted, sized, sizes, named, faced, behind, apart_checks, entry_checks}
 use Rattle.fleet.specs.Books.{Item, facing_of, vehicle_of, item_of, listed, four, vehicle_row, item_row, vehicles_in, IsItem, Rising}
 use Rattle.fleet.specs.Numbers.{of_four}
 use Rattle.fleet.specs.Heads.{none_first}

@@ -1,5 +1,5 @@
 -- Consists in tables.
-use Rattle.std.proofs.Common.{◌≡◌, ℕ, suc, ◌+◌, ◌-◌, ◌<◌, ◌≤◌, List, [], ◌∷◌, ◌++◌, length, get_or, take, drop, sym, refl, ap, ◌∙◌, ap₂, append_assoc, arith, length-drop, take-take, drop-drop}
+use Rattle.std.proofs.Common.{◌≡◌, ℕ, suc, ◌+◌, ◌<◌, ◌≤◌, List, [], ◌∷◌, ◌++◌, length, get_or, take, drop, sym, refl, ap, ◌∙◌, ap₂, append_assoc, arith, length-drop, take-take, drop-drop}
 use Rattle.std.proofs.lemmas.List.{drop-take, drop_more}
 use Rattle.train.specs.declared.entries.Vehicle.{Vehicle}
 use Rattle.fleet_list.specs.declared.tables.Head.{Head}

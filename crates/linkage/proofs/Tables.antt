@@ -1,5 +1,5 @@
 -- Entries read into a table, one after another, and a check of each.
-use Rattle.std.proofs.Common.{◌≡◌, ℕ, ◌+◌, ◌-◌, ◌*◌, ◌<◌, List, [], ◌∷◌, ◌++◌, map, length, get_or, take, drop, set, sym, ap, ◌∙◌, subst, ap₂, arith}
+use Rattle.std.proofs.Common.{◌≡◌, ℕ, ◌+◌, ◌*◌, ◌<◌, List, [], ◌∷◌, ◌++◌, map, length, get_or, take, drop, set, sym, ap, ◌∙◌, subst, ap₂, arith}
 use Rattle.std.proofs.lemmas.List.{take_more, take_more_set, take_all, length-map, get_or-map}
 use Rattle.fleet.specs.Rows.{rows}
 use Rattle.fleet.specs.Entries.{rows_at, length-rows}

@@ -1,5 +1,5 @@
 -- The laws of composing facings, case by case.
-use Rattle.std.proofs.Common.{◌≡◌, true, false, Some, None, sym, refl}
+use Rattle.std.proofs.Common.{◌≡◌, true, Some, refl}
 use Rattle.train.specs.declared.facing.Facing.{Facing}
 use Rattle.train.specs.declared.facing.Facing.TheVariants.{NotKnown, Direct, Inverse}
 use Rattle.train.specs.Facings.{composed, known, opposite, code, coded, FacingLaws}

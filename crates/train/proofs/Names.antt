@@ -8,7 +8,6 @@ use Rattle.std.proofs.lemmas.Bool.Decides.{nat_tests, Decides-and, Decides-at}
 use Rattle.std.proofs.ByRecursion.{Decides-by_and}
 use Rattle.std.proofs.lemmas.Slice.Eq.{bytes_eq-Decides}
 use Rattle.train.specs.Names.{every, printable, text_of, padded, name_text, well_formed, IsName}
-use Rattle.train.proofs.Bytes.{nowhere}
 
 module _ (bs : List ℕ) (i : ℕ) where
   pub text_past : i < length bs → (get_or bs i 0 ≡ 0 → ⊥) → take i bs ++ text_of (drop i bs) ≡ take (i + 1) bs ++ text_of (drop (i + 1) bs)

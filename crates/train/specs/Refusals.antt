@@ -1,8 +1,8 @@
 -- Refusals: the number of each reason, and the first of a list of checks that is not met.
-use Rattle.std.specs.Prelude.{◌≡◌, ℕ, ◌+◌, Bool, true, false, cond, not, ◌&&◌, ◌||◌, List, [], ◌∷◌, ◌++◌, length, Some, None, Ok, Err, Option, Result}
+use Rattle.std.specs.Prelude.{ℕ, ◌+◌, Bool, true, false, cond, not, ◌&&◌, ◌||◌, List, [], ◌∷◌, ◌++◌, length, Some, None, Ok, Err, Option, Result}
 use Rattle.train.specs.declared.refusal.Part.{Part}
 use Rattle.train.specs.declared.refusal.Place.{Place}
-use Rattle.train.specs.declared.refusal.Place.TheVariants.{At, InLine}
+use Rattle.train.specs.declared.refusal.Place.TheVariants.{At}
 use Rattle.train.specs.declared.refusal.Refusal.{Refusal}
 use Rattle.train.specs.declared.refusal.Reason.{Reason}
 use Rattle.train.specs.declared.refusal.Reason.TheVariants.{LineForm, BookHead, ConsistCount, VehicleCount, IdentityOrder, ZeroCounter, EntryCount, VehicleSum, NameForm, UnknownFacing, Repeated, NoFormation, NotPresent, ClaimRange, NothingStands, RosterFull, ConsistAbsent, TrainLength, SharedName, SeveralClaims, ClaimBeyond, ListOrder, InsertedInside, BufferShort}

@@ -1,7 +1,7 @@
 -- Turning a list, and the two kinds of entries.
 use Rattle.std.specs.Prelude.{◌≡◌, List, [], ◌∷◌, map, reverse}
 use Rattle.train.specs.declared.facing.Facing.{Facing}
-use Rattle.train.specs.declared.facing.Facing.TheVariants.{NotKnown, Direct, Inverse}
+use Rattle.train.specs.declared.facing.Facing.TheVariants.{Direct, Inverse}
 use Rattle.train.specs.declared.identity.Identity.{Identity}
 use Rattle.train.specs.declared.entries.Coupled.{Coupled}
 use Rattle.train.specs.declared.entries.Vehicle.{Vehicle}

@@ -1,9 +1,8 @@
 use Rattle.std.proofs.Common.{◌≡◌, ℕ, ◌+◌, ◌<◌, ◌≤◌, List, length, get_or, drop, sym, ap, ◌∙◌, subst}
 use Rattle.std.proofs.lemmas.List.{drop_more, drop_all}
 use Rattle.bench.specs.declared.calls.Call.{Call as Lent}
-use Rattle.bench.specs.Calls.{Call, said, run}
-use Rattle.bench.specs.Facts.{Facts, after, after_all, nothing}
-use Rattle.bench.specs.Shown.{shown}
+use Rattle.bench.specs.Calls.{said, run}
+use Rattle.bench.specs.Facts.{Facts, after, after_all}
 use Rattle.bench.specs.Standing.{Shows}
 use Rattle.bench.proofs.Runs.{stands}
 use Rattle.bench.proofs.Accepting.{accepted_as_told, standing_laws}

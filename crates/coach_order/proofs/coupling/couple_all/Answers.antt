@@ -1,4 +1,4 @@
-use Rattle.std.proofs.Common.{◌≡◌, ◌≤◌, length, sym, refl, arith}
+use Rattle.std.proofs.Common.{◌≤◌, length, arith}
 use Rattle.fleet.specs.Held.{held}
 use Rattle.directory.proofs.Fills.{filled_more, filled_all}
 use Rattle.coach_order.specs.Orders.{direct}

@@ -1,28 +1,28 @@
-use Rattle.std.proofs.Common.{◌≡◌, sym, refl, ap, ◌∙◌, subst}
+use Rattle.std.proofs.Common.{sym, refl, ap, ◌∙◌}
 use Rattle.std.proofs.lemmas.Result.{err_from_is_err_and}
 use Rattle.coach_order.specs.Orders.{uncoupled}
 use Rattle.coach_order.proofs.Ready.{book_lent, list_of, ordered, import_refused, decided_first, decided_then}
 use Rattle.coach_order.proofs.order.coach_order.Goals as goal
 
-pub returns-in-err-length : goal.returns-in-err-length
-returns-in-err-length c =
-    let p = err_from_is_err_and c.from-residual.result c.from-residual.ensures.1 in
+pub returns-in_err-length : goal.returns-in_err-length
+returns-in_err-length c =
+    let p = err_from_is_err_and c.from_residual.result c.from_residual.ensures.1 in
     rw (p.1, p.2)
     (record {
-      answer = (refl, import_refused c.args.list.now _ c.in-err-length.ensures.answer.1);
-      decided = decided_first c.args.list.now _ _ refl c.in-err-length.ensures.decided;
+      answer = (refl, import_refused c.args.list.now _ c.in_err-length.ensures.answer.1);
+      decided = decided_first c.args.list.now _ _ refl c.in_err-length.ensures.decided;
     })
 
-pub returns-in-err-open : goal.returns-in-err-open
-returns-in-err-open c =
-    let i = c.in-ok-length.ensures.answer in
-    absurd (c.in-err-open.ensures.exactly i.items (book_lent i))
+pub returns-in_err-open : goal.returns-in_err-open
+returns-in_err-open c =
+    let i = c.in_ok-length.ensures.answer in
+    absurd (c.in_err-open.ensures.exactly i.items (book_lent i))
 
 pub returns : goal.returns
 returns c =
-    let i = c.in-ok-length.ensures.answer in
-    let e = c.in-ok-open.ensures.exactly.only i.items (book_lent i) in
+    let i = c.in_ok-length.ensures.answer in
+    let e = c.in_ok-open.ensures.exactly.only i.items (book_lent i) in
     record {
-      answer = ordered c.args.list.now c.args.vehicles.now _ i.items _ c.compose-all.result (list_of i) e c.compose-all.ensures.answer c.compose-all.ensures.laid;
-      decided = decided_then c.args.list.now _ _ i.items c.compose-all.result refl c.in-ok-length.ensures.decided (list_of i) (c.compose-all.ensures.answer ∙ ap uncoupled (sym e));
+      answer = ordered c.args.list.now c.args.vehicles.now _ i.items _ c.compose_all.result (list_of i) e c.compose_all.ensures.answer c.compose_all.ensures.laid;
+      decided = decided_then c.args.list.now _ _ i.items c.compose_all.result refl c.in_ok-length.ensures.decided (list_of i) (c.compose_all.ensures.answer ∙ ap uncoupled (sym e));
     }

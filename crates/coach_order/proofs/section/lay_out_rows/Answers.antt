@@ -1,4 +1,4 @@
-use Rattle.std.proofs.Common.{◌≡◌, ◌≤◌, [], length, sym, refl, arith}
+use Rattle.std.proofs.Common.{[], sym, arith}
 use Rattle.fleet.specs.Rows.{rows}
 use Rattle.fleet.specs.Entries.{length-rows}
 use Rattle.directory.proofs.Fills.{filled_more, filled_all}
@@ -12,7 +12,7 @@ loop-i-preserved c =
     let bs = c.args.rows.now in
     let l = length-rows 24 n bs in
     filled_more row_vehicle (rows 24 n bs) c.args.vehicles.now c.loop-i.i c.loop-i.vehicles [] _ c.loop-i.invariant (omega arith) (omega arith)
-    (row_told n bs c.loop-i.i _ c.loop-i-test.true c.vehicle-of.ensures)
+    (row_told n bs c.loop-i.i _ c.loop-i-test.true c.vehicle_of.ensures)
 
 pub returns : goal.returns
 returns c =

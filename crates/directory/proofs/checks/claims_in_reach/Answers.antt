@@ -1,4 +1,4 @@
-use Rattle.std.proofs.Common.{◌≡◌, Some, sym, refl, ap, ◌∙◌, ap₂}
+use Rattle.std.proofs.Common.{Some, sym, refl, ap, ◌∙◌, ap₂}
 use Rattle.train.specs.declared.refusal.Part.TheVariants.{Composing}
 use Rattle.train.specs.declared.refusal.Reason.TheVariants.{ClaimBeyond}
 use Rattle.train.specs.Refusals.{breach, each, alone}

@@ -1,4 +1,4 @@
-use Rattle.std.proofs.Common.{◌≡◌, sym, refl, ◌∙◌}
+use Rattle.std.proofs.Common.{sym, refl, ◌∙◌}
 use Rattle.train.specs.Identities.{same_identity}
 use Rattle.directory.specs.Composing.{car_of}
 use Rattle.directory.proofs.Walks.{any_past, any_here, any_none}

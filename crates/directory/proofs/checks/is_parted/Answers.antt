@@ -1,6 +1,6 @@
-use Rattle.std.proofs.Common.{◌≡◌, Bool, true, false, not, ◌&&◌, List, get_or, sym, refl, ◌∙◌}
+use Rattle.std.proofs.Common.{Bool, true, false, not, ◌&&◌, List, get_or, sym, refl, ◌∙◌}
 use Rattle.directory.specs.declared.cars.Car.{Car}
-use Rattle.directory.specs.Composing.{inserted, car_of, split, parted}
+use Rattle.directory.specs.Composing.{inserted, split, parted}
 use Rattle.directory.specs.Cars.{no_car}
 use Rattle.directory.proofs.Walks.{any_past, any_here, any_none, behind}
 use Rattle.directory.proofs.checks.is_parted.Goals as goal

@@ -1,6 +1,6 @@
-use Rattle.std.proofs.Common.{◌≡◌, length, refl, ap, ◌∙◌}
+use Rattle.std.proofs.Common.{length, refl, ap, ◌∙◌}
 use Rattle.bench.specs.Calls.{run}
-use Rattle.bench.specs.Facts.{Facts, after_all}
+use Rattle.bench.specs.Facts.{after_all}
 use Rattle.directory.specs.Compared.{side}
 use Rattle.directory.specs.Law.{Side}
 use Rattle.directory.specs.Operation.{leads}

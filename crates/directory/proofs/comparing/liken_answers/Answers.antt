@@ -1,4 +1,4 @@
-use Rattle.std.proofs.Common.{◌≡◌, ◌≤◌, ◌&&◌, length, take, IfOk, sym, ◌∙◌, subst, ap₂}
+use Rattle.std.proofs.Common.{◌≤◌, ◌&&◌, length, take, IfOk, sym, ◌∙◌, subst, ap₂}
 use Rattle.std.specs.Str.{bytes_eq}
 use Rattle.directory.specs.Compared.{ends_of}
 use Rattle.directory.specs.Part.{leading_part, Sections}

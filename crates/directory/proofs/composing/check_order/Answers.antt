@@ -1,4 +1,4 @@
-use Rattle.std.proofs.Common.{◌≡◌, Bool, not, List, [], ◌∷◌, Some, None, Option, sym, refl, ap, ◌∙◌, subst, ap₂}
+use Rattle.std.proofs.Common.{◌≡◌, Bool, not, List, [], ◌∷◌, Some, None, Option, sym, refl, ap, ◌∙◌}
 use Rattle.std.proofs.lemmas.Result.{err_from_is_err_and}
 use Rattle.train.specs.declared.name.Name.{Name}
 use Rattle.train.specs.declared.refusal.Part.TheVariants.{Composing}
@@ -6,11 +6,9 @@ use Rattle.train.specs.declared.refusal.Reason.TheVariants.{ListOrder, InsertedI
 use Rattle.train.specs.declared.refusal.Refusal.{Refusal}
 use Rattle.train.specs.Refusals.{must, breach, refusal, refusal_of, or_else}
 use Rattle.train.proofs.Rules.{last_answers}
-use Rattle.bench.specs.Shown.{shown}
 use Rattle.directory.specs.declared.cars.Car.{Car}
 use Rattle.directory.specs.Operation.{names, ordered}
 use Rattle.directory.specs.Composing.{in_order, parted, order_checks}
-use Rattle.directory.specs.Written.{Written}
 use Rattle.directory.proofs.Behind.{front, same_text}
 use Rattle.directory.proofs.composing.check_order.Goals as goal
 

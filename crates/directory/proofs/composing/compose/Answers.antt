@@ -1,8 +1,7 @@
-use Rattle.std.proofs.Common.{◌≡◌, ◌+◌, ◌-◌, ◌≤◌, length, take, Some, sym, refl, ap, ◌∙◌, arith}
+use Rattle.std.proofs.Common.{◌-◌, length, Some, refl, ap, ◌∙◌, arith}
 use Rattle.std.proofs.lemmas.Result.{err_from_is_err_and, MatchResult-from_err}
 use Rattle.train.specs.Refusals.{refusal_of}
 use Rattle.bench.specs.Shown.{shown}
-use Rattle.directory.specs.Cars.{train}
 use Rattle.directory.specs.Operation.{ordered}
 use Rattle.directory.proofs.Behind.{front}
 use Rattle.directory.proofs.Composed.{by_formation, by_train, by_order, by_room, head_lent, take_most}

@@ -1,5 +1,4 @@
-use Rattle.std.proofs.Common.{◌≡◌, sym, ap, ◌∙◌}
-use Rattle.train.specs.Turning.{turned_list}
+use Rattle.std.proofs.Common.{ap}
 use Rattle.directory.specs.Cars.{met, turned_car}
 use Rattle.directory.proofs.Behind.{same_text}
 use Rattle.directory.proofs.Fills.{copied}

@@ -1,4 +1,4 @@
-use Rattle.std.proofs.Common.{◌≡◌, ℕ, Bool, false, ◌&&◌, eqb, List, get_or, sym, ap, ◌∙◌, ap₂, eq-eqb}
+use Rattle.std.proofs.Common.{◌≡◌, ℕ, Bool, ◌&&◌, List, get_or, sym, ap, ◌∙◌, ap₂, eq-eqb}
 use Rattle.std.specs.Str.{bytes_eq}
 use Rattle.directory.specs.Part.{thin_section, consists, vehicles, leading_part, Sections}
 use Rattle.directory.proofs.Thin.{leading_same}

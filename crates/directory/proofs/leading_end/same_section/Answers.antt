@@ -1,4 +1,4 @@
-use Rattle.std.proofs.Common.{◌≡◌, ℕ, Bool, ◌&&◌, eqb, get_or, drop, sym, ap, ◌∙◌, ap₂, eq-eqb}
+use Rattle.std.proofs.Common.{◌&&◌, get_or, drop, sym, ap, ◌∙◌, ap₂, eq-eqb}
 use Rattle.std.specs.Str.{bytes_eq}
 use Rattle.std.proofs.lemmas.List.{take_rest}
 use Rattle.directory.specs.Part.{thinned}

@@ -1,4 +1,4 @@
-use Rattle.std.proofs.Common.{◌≡◌, true, false, get_or, is_some, Some, sym, refl, ap, ◌∙◌}
+use Rattle.std.proofs.Common.{is_some, Some, sym, refl, ap, ◌∙◌}
 use Rattle.train.specs.declared.refusal.Part.TheVariants.{Composing}
 use Rattle.train.specs.declared.refusal.Reason.TheVariants.{ConsistAbsent}
 use Rattle.train.specs.Refusals.{breach, alone}

@@ -1,4 +1,4 @@
-use Rattle.std.proofs.Common.{◌≡◌, ◌<◌, ◌≤◌, length, sym, ◌∙◌, subst, arith}
+use Rattle.std.proofs.Common.{◌≡◌, sym, ◌∙◌, subst, arith}
 use Rattle.fleet.specs.Fleets.{vehicles_of}
 use Rattle.directory.proofs.Loads.{Loading, loading_none, loading_more, loading_all, loading_end, asked, few_vehicles, nth_some}
 use Rattle.directory.proofs.loading.load_consist.Goals as goal

@@ -1,9 +1,8 @@
-use Rattle.std.proofs.Common.{◌≡◌, sym, ap, ◌∙◌}
+use Rattle.std.proofs.Common.{ap, ◌∙◌}
 use Rattle.bench.specs.Shown.{shown}
 use Rattle.fleet.specs.Fleets.{vehicles_of}
 use Rattle.train.specs.Turning.{turned_list}
-use Rattle.directory.specs.Cars.{cars, met, stretch, turned_car}
-use Rattle.directory.specs.Written.{Written}
+use Rattle.directory.specs.Cars.{cars, turned_car}
 use Rattle.directory.proofs.Behind.{same_text}
 use Rattle.directory.proofs.Loads.{turned_front, met_inverse}
 use Rattle.directory.proofs.loading.load_entry.Goals as goal

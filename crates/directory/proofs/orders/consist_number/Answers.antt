@@ -1,4 +1,4 @@
-use Rattle.std.proofs.Common.{◌≡◌, ◌+◌, Bool, sym, refl, ◌∙◌, arith}
+use Rattle.std.proofs.Common.{◌+◌, Bool, sym, refl, ◌∙◌, arith}
 use Rattle.std.proofs.lemmas.List.{at_drop_all}
 use Rattle.train.specs.Identities.{same_identity}
 use Rattle.train.specs.declared.entries.Coupled.{Coupled}

@@ -1,4 +1,4 @@
-use Rattle.std.proofs.Common.{◌≡◌, Bool, List, sym, refl, ◌∙◌}
+use Rattle.std.proofs.Common.{Bool, List, sym, refl, ◌∙◌}
 use Rattle.train.specs.Identities.{same_name}
 use Rattle.train.specs.Refusals.{among}
 use Rattle.directory.specs.declared.cars.Car.{Car}

@@ -1,10 +1,9 @@
-use Rattle.std.proofs.Common.{◌≡◌, true, false, get_or, Some, sym, refl, ap, ◌∙◌}
+use Rattle.std.proofs.Common.{true, false, get_or, Some, sym, refl, ap, ◌∙◌}
 use Rattle.std.specs.Str.{bytes_eq}
 use Rattle.train.specs.declared.refusal.Part.TheVariants.{Composing}
 use Rattle.train.specs.declared.refusal.Reason.TheVariants.{SharedName}
 use Rattle.train.specs.Refusals.{breach, by}
 use Rattle.train.proofs.Rules.{each_past, each_here, each_all, fresh_told}
-use Rattle.directory.specs.declared.cars.Car.{Car}
 use Rattle.directory.specs.Composing.{fresh_name}
 use Rattle.directory.specs.Cars.{no_car}
 use Rattle.directory.proofs.Walks.{shared_at, unshared}

@@ -1,4 +1,4 @@
-use Rattle.std.proofs.Common.{◌≡◌, ◌&&◌, ltb, length, sym, ◌∙◌, arith}
+use Rattle.std.proofs.Common.{ltb, length, sym, ◌∙◌, arith}
 use Rattle.std.proofs.lemmas.Bool.{and_parts, ltb-true}
 use Rattle.directory.specs.Operation.{names}
 use Rattle.directory.proofs.InOrder.{test_name_at, step_met, step_missed}

@@ -1,7 +1,7 @@
-use Rattle.std.proofs.Common.{◌≡◌, length, sym, refl, ap, ◌∙◌, arith}
-use Rattle.directory.specs.Operation.{pick, ordered}
+use Rattle.std.proofs.Common.{refl, arith}
+use Rattle.directory.specs.Operation.{pick}
 use Rattle.directory.proofs.Behind.{same_text}
-use Rattle.directory.proofs.Fills.{filled_more, filled_all, copied}
+use Rattle.directory.proofs.Fills.{filled_more, filled_all}
 use Rattle.directory.proofs.InOrder.{ordered_by}
 use Rattle.directory.proofs.orders.order_by.Goals as goal
 

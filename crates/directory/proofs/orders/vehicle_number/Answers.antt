@@ -1,4 +1,4 @@
-use Rattle.std.proofs.Common.{◌≡◌, ◌+◌, Bool, sym, refl, ◌∙◌, arith}
+use Rattle.std.proofs.Common.{◌+◌, Bool, sym, refl, ◌∙◌, arith}
 use Rattle.std.proofs.lemmas.List.{at_drop_all}
 use Rattle.train.specs.Identities.{same_name}
 use Rattle.directory.specs.declared.cars.Car.{Car}

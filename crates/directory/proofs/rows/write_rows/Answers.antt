@@ -1,7 +1,7 @@
-use Rattle.std.proofs.Common.{◌≡◌, ◌+◌, ◌*◌, length, take, sym, refl, ap, ◌∙◌, arith}
+use Rattle.std.proofs.Common.{◌≡◌, ◌*◌, length, refl, ap, ◌∙◌, arith}
 use Rattle.std.proofs.lemmas.List.{take_all}
 use Rattle.directory.specs.Sections.{rows}
-use Rattle.directory.proofs.Behind.{lend, same_text, nothing_yet}
+use Rattle.directory.proofs.Behind.{lend, same_text}
 use Rattle.directory.proofs.Sections.{rows_more, times_more, row_room}
 use Rattle.directory.proofs.rows.write_rows.Goals as goal
 

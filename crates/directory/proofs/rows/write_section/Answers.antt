@@ -1,4 +1,4 @@
-use Rattle.std.proofs.Common.{◌≡◌, ◌+◌, ◌<◌, length, sym, refl, ap, ◌∙◌, arith}
+use Rattle.std.proofs.Common.{◌+◌, ◌<◌, length, refl, ap, arith}
 use Rattle.directory.proofs.Behind.{first_set, lend}
 use Rattle.directory.proofs.rows.write_section.Goals as goal
 

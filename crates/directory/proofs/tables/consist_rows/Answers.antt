@@ -1,4 +1,3 @@
-use Rattle.std.proofs.Common.{arith}
 use Rattle.directory.specs.Rows.{consist_row_of}
 use Rattle.directory.proofs.Runs.{collecting_none, collecting_same, collecting_more, collecting_all}
 use Rattle.directory.proofs.tables.consist_rows.Goals as goal

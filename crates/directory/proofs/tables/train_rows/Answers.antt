@@ -1,4 +1,4 @@
-use Rattle.std.proofs.Common.{◌≡◌, length, get_or, sym, refl, ap, ◌∙◌, arith}
+use Rattle.std.proofs.Common.{refl, arith}
 use Rattle.directory.specs.Rows.{train_row_of}
 use Rattle.directory.proofs.Fills.{filled_more, filled_all, filled_entry_row}
 use Rattle.directory.proofs.tables.train_rows.Goals as goal

@@ -1,4 +1,4 @@
-use Rattle.std.proofs.Common.{◌≡◌, [], ◌∷◌, refl, arith}
+use Rattle.std.proofs.Common.{[], ◌∷◌, refl, arith}
 use Rattle.directory.proofs.Behind.{lend, same_text, same_count}
 use Rattle.directory.proofs.Whole.{header_text}
 use Rattle.directory.proofs.writing.write_header.Goals as goal

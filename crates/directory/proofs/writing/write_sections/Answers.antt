@@ -1,4 +1,4 @@
-use Rattle.std.proofs.Common.{◌≡◌, refl, append_assoc, arith}
+use Rattle.std.proofs.Common.{refl, append_assoc, arith}
 use Rattle.directory.specs.Rows.{train_row, consist_row, vehicle_row}
 use Rattle.directory.specs.Sections.{section}
 use Rattle.directory.proofs.Behind.{lend, same_text}

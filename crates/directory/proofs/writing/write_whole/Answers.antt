@@ -1,7 +1,7 @@
-use Rattle.std.proofs.Common.{◌≡◌, ◌+◌, ◌-◌, ◌≤◌, ◌++◌, length, sym, refl, ap, ◌∙◌, arith}
+use Rattle.std.proofs.Common.{◌++◌, refl, arith}
 use Rattle.directory.specs.Rows.{train_row, consist_row, vehicle_row}
 use Rattle.directory.specs.Sections.{section}
-use Rattle.directory.proofs.Whole.{all_fits, whole_written}
+use Rattle.directory.proofs.Whole.{whole_written}
 use Rattle.directory.proofs.writing.write_whole.Goals as goal
 
 pub returns : goal.returns

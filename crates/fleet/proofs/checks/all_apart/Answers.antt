@@ -1,4 +1,4 @@
-use Rattle.std.proofs.Common.{sym, ap, ◌∙◌, arith}
+use Rattle.std.proofs.Common.{sym, ◌∙◌, arith}
 use Rattle.fleet.specs.Rows.{rows}
 use Rattle.fleet.specs.Heads.{passed_on}
 use Rattle.fleet.specs.Entries.{sizes_past, consist_past, consist_here, consists_all}

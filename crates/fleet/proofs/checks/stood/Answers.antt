@@ -1,4 +1,4 @@
-use Rattle.std.proofs.Common.{◌≡◌, ◌+◌, ◌≤◌, [], get_or, sym, ap, ◌∙◌, ap₂, arith}
+use Rattle.std.proofs.Common.{◌+◌, ◌≤◌, [], get_or, sym, ap, ◌∙◌, ap₂, arith}
 use Rattle.std.specs.Str.{bytes_eq}
 use Rattle.fleet.specs.Rows.{rows, name_of}
 use Rattle.fleet.specs.Entries.{name_past, name_here, name_none}

@@ -1,4 +1,4 @@
-use Rattle.std.proofs.Common.{◌≡◌, ℕ, ◌+◌, ◌-◌, ◌*◌, ◌<◌, ◌≤◌, List, length, get_or, take, drop, Some, sym, refl, ap, ◌∙◌, arith, length-drop, ltb-false}
+use Rattle.std.proofs.Common.{◌≡◌, ℕ, ◌+◌, ◌-◌, ◌*◌, ◌≤◌, List, length, get_or, take, drop, Some, refl, ap, ◌∙◌, arith, length-drop, ltb-false}
 use Rattle.std.proofs.lemmas.List.{take_rest}
 use Rattle.fleet.specs.Books.{count_of, entries_of, tail_of, table_of, total_of}
 use Rattle.fleet.specs.Heads.{Head, head_fits, head_fails}

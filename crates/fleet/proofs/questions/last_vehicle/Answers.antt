@@ -1,4 +1,4 @@
-use Rattle.std.proofs.Common.{is_some, sym, ap, ◌∙◌}
+use Rattle.std.proofs.Common.{is_some, ap, ◌∙◌}
 use Rattle.fleet.proofs.Found.{last_found, last_present}
 use Rattle.fleet.proofs.questions.last_vehicle.Goals as goal
 

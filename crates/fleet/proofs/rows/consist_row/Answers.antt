@@ -1,4 +1,4 @@
-use Rattle.std.proofs.Common.{◌≡◌, ℕ, ◌+◌, ◌-◌, ◌*◌, [], length, take, drop, sym, ap, ◌∙◌, arith, length-drop, length-take}
+use Rattle.std.proofs.Common.{◌≡◌, ℕ, ◌+◌, ◌-◌, ◌*◌, [], take, drop, sym, ap, ◌∙◌, arith, length-drop, length-take}
 use Rattle.fleet.specs.Entries.{rows_at}
 use Rattle.fleet.proofs.rows.consist_row.Goals as goal
 

@@ -1,4 +1,4 @@
-use Rattle.std.proofs.Common.{◌-◌, [], ◌∷◌, refl, arith, length-append}
+use Rattle.std.proofs.Common.{[], ◌∷◌, refl, arith, length-append}
 use Rattle.std.specs.List.{flat_map}
 use Rattle.fleet_list.specs.Texts.{byte_text}
 use Rattle.fleet_list.proofs.Behind.{then_byte, written_none}

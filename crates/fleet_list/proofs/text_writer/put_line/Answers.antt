@@ -1,4 +1,4 @@
-use Rattle.std.proofs.Common.{◌≡◌, ℕ, ◌+◌, ◌-◌, List, [], ◌∷◌, ◌++◌, decimal, refl, append_assoc, arith, length-append}
+use Rattle.std.proofs.Common.{◌≡◌, ℕ, ◌+◌, List, [], ◌∷◌, ◌++◌, decimal, refl, append_assoc, arith, length-append}
 use Rattle.std.specs.List.{flat_map}
 use Rattle.fleet_list.specs.Texts.{byte_text, vehicle_text}
 use Rattle.fleet_list.proofs.Behind.{lend, then_byte, same_text, same_length}

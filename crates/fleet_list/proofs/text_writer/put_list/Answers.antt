@@ -1,4 +1,4 @@
-use Rattle.std.proofs.Common.{◌-◌, [], length, refl, ap, arith}
+use Rattle.std.proofs.Common.{[], length, refl, ap, arith}
 use Rattle.fleet_list.specs.Lists.{line_text}
 use Rattle.fleet_list.specs.Tables.{gathered, item_of}
 use Rattle.fleet_list.proofs.Behind.{written_none, same_text}

@@ -1,4 +1,4 @@
-use Rattle.std.proofs.Common.{◌-◌, [], ◌∷◌, set, refl, arith, length-append, length-set}
+use Rattle.std.proofs.Common.{[], ◌∷◌, set, refl, arith, length-append, length-set}
 use Rattle.std.specs.List.{flat_map}
 use Rattle.fleet_list.specs.Texts.{escaped}
 use Rattle.fleet_list.proofs.Behind.{then_byte}

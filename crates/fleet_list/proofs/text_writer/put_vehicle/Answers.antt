@@ -1,4 +1,4 @@
-use Rattle.std.proofs.Common.{◌+◌, ◌-◌, ◌∷◌, ◌++◌, length, set, sym, refl, ap, arith, length-set}
+use Rattle.std.proofs.Common.{◌∷◌, ◌++◌, length, set, sym, refl, ap, arith, length-set}
 use Rattle.train.specs.Names.{text_of}
 use Rattle.fleet_list.specs.Texts.{quoted}
 use Rattle.fleet_list.proofs.Behind.{lend, then_byte, written_none, same_text, same_length}

@@ -14,25 +14,25 @@ abbrev real : Rule Coupled
 real = alone (λ e. is_identity e.identity.bytes)
 
 -- the entry that is read is the i-th
-pub returns-then-not-is-well-formed : goal.returns-then-not-is-well-formed
-returns-then-not-is-well-formed c =
+pub returns-then-not-is_well_formed : goal.returns-then-not-is_well_formed
+returns-then-not-is_well_formed c =
     let n = c.args.count in
     let bs = c.args.bytes.now in
     let i = c.loop-i.i in
-    let is = read_at 17 n bs coupled_of i _ c.coupled-of-entry.result c.loop-i-test.true (omega arith) c.coupled-of-entry.ensures in
+    let is = read_at 17 n bs coupled_of i _ c.coupled_of-entry.result c.loop-i-test.true (omega arith) c.coupled_of-entry.ensures in
     let l : i < length (map coupled_of (rows 17 n bs)) = omega (arith, length_read 17 n bs coupled_of, c.loop-i-test.true) in
     ap Some c.at.ensures
     ∙ sym (ap (breach Bench) c.loop-i.invariant
-    ∙ each_here real IdentityOrder (map coupled_of (rows 17 n bs)) i Bench c.coupled-of-entry.result (coupled_of []) is l (sym c.if-not-is-well-formed.ensures))
+    ∙ each_here real IdentityOrder (map coupled_of (rows 17 n bs)) i Bench c.coupled_of-entry.result (coupled_of []) is l (sym c.if-not-is_well_formed.ensures))
 
 pub loop-i-preserved : goal.loop-i-preserved
 loop-i-preserved c =
     let n = c.args.count in
     let bs = c.args.bytes.now in
     let i = c.loop-i.i in
-    let is = read_at 17 n bs coupled_of i _ c.coupled-of-entry.result c.loop-i-test.true (omega arith) c.coupled-of-entry.ensures in
+    let is = read_at 17 n bs coupled_of i _ c.coupled_of-entry.result c.loop-i-test.true (omega arith) c.coupled_of-entry.ensures in
     let l : i < length (map coupled_of (rows 17 n bs)) = omega (arith, length_read 17 n bs coupled_of, c.loop-i-test.true) in
-    c.loop-i.invariant ∙ each_past real IdentityOrder (map coupled_of (rows 17 n bs)) i c.coupled-of-entry.result (coupled_of []) is l (sym c.if-not-is-well-formed.ensures)
+    c.loop-i.invariant ∙ each_past real IdentityOrder (map coupled_of (rows 17 n bs)) i c.coupled_of-entry.result (coupled_of []) is l (sym c.if-not-is_well_formed.ensures)
 
 pub returns : goal.returns
 returns c =

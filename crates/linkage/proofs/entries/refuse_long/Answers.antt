@@ -10,7 +10,7 @@ returns c =
     let n = c.args.count in
     let bs = c.args.bytes.now in
     record {
-      answer = too_long c.args.etb (map coupled_of (rows 17 n bs)) c.at.result (omega (arith, length_read 17 n bs coupled_of, c.requires.many)) (omega arith) c.in-ok-identities-well-formed.ensures
-          c.in-ok-require.ensures c.at.ensures;
+      answer = too_long c.args.etb (map coupled_of (rows 17 n bs)) c.at.result (omega (arith, length_read 17 n bs coupled_of, c.requires.many)) (omega arith) c.in_ok-identities_well_formed.ensures
+          c.in_ok-require.ensures c.at.ensures;
       never = refl;
     }

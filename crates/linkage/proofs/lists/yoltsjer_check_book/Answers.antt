@@ -6,8 +6,8 @@ use Rattle.linkage.proofs.lists.yoltsjer_check_book.Goals as goal
 
 pub returns : goal.returns
 returns c =
-    let e = c.with-room.ensures ∙ book_freed c.args.book.now c.export-book.new.out c.export-book.result c.length-of-checked.result c.export-book.ensures c.length-of-checked.ensures in
+    let e = c.with_room.ensures ∙ book_freed c.args.book.now c.export_book.new.out c.export_book.result c.length_of-checked.result c.export_book.ensures c.length_of-checked.ensures in
     record {
-      status = c.tell-length.ensures.told ∙ unlined_told c.with-room.result ∙ ap (λ r. status_of (refusal_of (unlined r))) e;
-      answer = c.tell-length.ensures.answer ∙ ap (λ r. answer_of (unlined r)) e;
+      status = c.tell_length.ensures.told ∙ unlined_told c.with_room.result ∙ ap (λ r. status_of (refusal_of (unlined r))) e;
+      answer = c.tell_length.ensures.answer ∙ ap (λ r. answer_of (unlined r)) e;
     }

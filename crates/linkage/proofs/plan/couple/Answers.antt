@@ -5,5 +5,5 @@ use Rattle.linkage.proofs.plan.couple.Goals as goal
 
 pub returns : goal.returns
 returns c =
-    coupled (shown c.args.bench.now) (shown c.inaugurate.new.self) c.args.etb c.args.formation.now c.read-formation.new.table _ c.inaugurate.result (omega arith)
-    c.read-formation.ensures c.in-ok-require.ensures c.inaugurate.ensures.answer c.inaugurate.ensures.facts
+    coupled (shown c.args.bench.now) (shown c.inaugurate.new.self) c.args.etb c.args.formation.now c.read_formation.new.table _ c.inaugurate.result (omega arith)
+    c.read_formation.ensures c.in_ok-require.ensures c.inaugurate.ensures.answer c.inaugurate.ensures.facts

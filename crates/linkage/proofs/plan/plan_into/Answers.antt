@@ -6,6 +6,6 @@ use Rattle.linkage.proofs.plan.plan_into.Goals as goal
 
 pub returns : goal.returns
 returns c =
-    let opened = c.in-ok-open.ensures in
-    composes (said c.args.plan.now) (shown c.new-bench.result) (shown c.play-run.new.bench) (lent c.open.new.self) c.in-ok-play-run.field-0 c.compose.result c.args.out.now
-    c.compose.new.out opened.answer opened.after c.new-bench.ensures c.in-ok-play-run.ensures c.compose.ensures.answer c.compose.ensures.wrote
+    let opened = c.in_ok-open.ensures in
+    composes (said c.args.plan.now) (shown c.new-bench.result) (shown c.play_run.new.bench) (lent c.open.new.self) c.in_ok-play_run.field-0 c.compose.result c.args.out.now
+    c.compose.new.out opened.answer opened.after c.new-bench.ensures c.in_ok-play_run.ensures c.compose.ensures.answer c.compose.ensures.wrote

@@ -1,7 +1,7 @@
-use Rattle.std.proofs.Common.{◌≡◌, ℕ, ◌-◌, Bool, true, false, not, List, take, Some, sym, ap, ◌∙◌, arith}
+use Rattle.std.proofs.Common.{true, false, Some, sym, ap, ◌∙◌}
 use Rattle.std.specs.Str.{bytes_eq}
 use Rattle.train.specs.declared.refusal.Reason.TheVariants.{Repeated}
-use Rattle.train.specs.Refusals.{breach, fresh, among, by}
+use Rattle.train.specs.Refusals.{breach, fresh, by}
 use Rattle.train.proofs.Rules.{each_past, each_here, each_all, fresh_told}
 use Rattle.train.proofs.checks.labels_apart.Goals as goal
 

@@ -1,4 +1,4 @@
-use Rattle.std.proofs.Common.{◌≡◌, sym, ◌∙◌, ap₂}
+use Rattle.std.proofs.Common.{sym, ◌∙◌, ap₂}
 use Rattle.std.specs.Str.{bytes_eq}
 use Rattle.train.specs.Refusals.{by}
 use Rattle.train.proofs.Rules.{among_past, among_here, among_none}

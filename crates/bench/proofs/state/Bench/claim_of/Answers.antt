@@ -1,5 +1,5 @@
-use Rattle.std.proofs.Common.{◌≡◌, ◌≤◌, length, sym, ap, ◌∙◌, subst, arith}
-use Rattle.bench.specs.Facts.{Place, coupled_in}
+use Rattle.std.proofs.Common.{sym, ap, ◌∙◌, arith}
+use Rattle.bench.specs.Facts.{coupled_in}
 use Rattle.bench.specs.Table.{kept}
 use Rattle.bench.proofs.Places.{kept_none}
 use Rattle.bench.proofs.Acts.{claim_read}

@@ -1,15 +1,12 @@
-use Rattle.std.proofs.Common.{◌≡◌, ℕ, ◌≤◌, ◌&&◌, List, [], ◌∷◌, length, is_some, Some, None, sym, refl, ap, ◌∙◌}
-use Rattle.std.proofs.lemmas.Result.{err_from_is_err_and}
-use Rattle.train.specs.declared.identity.Identity.{Identity}
-use Rattle.train.specs.declared.name.Name.{Name}
+use Rattle.std.proofs.Common.{◌≡◌, None, ap, ◌∙◌}
 use Rattle.train.specs.declared.refusal.Part.TheVariants.{Bench}
-use Rattle.train.specs.declared.refusal.Reason.TheVariants.{ClaimRange, NothingStands, NoFormation}
-use Rattle.train.specs.Refusals.{Check, must, breach, refusal, refusal_of}
-use Rattle.train.proofs.Rules.{first_refuses, last_answers}
+use Rattle.train.specs.declared.refusal.Reason.TheVariants.{NoFormation}
+use Rattle.train.specs.Refusals.{must, breach}
+use Rattle.train.proofs.Rules.{last_answers}
 use Rattle.bench.specs.Calls.{Call}
-use Rattle.bench.specs.Facts.{Facts, checks, place_checks, list_checks, within, some, after, done}
+use Rattle.bench.specs.Facts.{list_checks, some}
 use Rattle.bench.specs.Shown.{shown}
-use Rattle.bench.proofs.Acts.{refused_keeps, taken_does, front_copied}
+use Rattle.bench.proofs.Acts.{taken_does, front_copied}
 use Rattle.bench.proofs.state.Bench.confirm.Goals as goal
 
 pub returns : goal.returns

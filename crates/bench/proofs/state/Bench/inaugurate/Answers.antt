@@ -1,12 +1,8 @@
-use Rattle.std.proofs.Common.{◌≡◌, ◌≤◌, [], ◌∷◌, ◌++◌, length, take, Some, None, sym, refl, ap, ◌∙◌, arith}
+use Rattle.std.proofs.Common.{Some, ap, ◌∙◌}
 use Rattle.std.proofs.lemmas.Result.{err_from_is_err_and}
-use Rattle.train.specs.declared.refusal.Part.TheVariants.{Bench}
-use Rattle.train.specs.Refusals.{refusal, refusal_of}
-use Rattle.train.proofs.Rules.{first_refuses, last_answers}
+use Rattle.train.specs.Refusals.{refusal_of}
 use Rattle.bench.specs.Calls.{Call}
-use Rattle.bench.specs.Facts.{Facts, checks, place_checks, list_checks, after, done}
 use Rattle.bench.specs.Shown.{shown}
-use Rattle.bench.proofs.Places.{none_kept}
 use Rattle.bench.proofs.Acts.{refused_keeps, taken_does, front_copied, fresh_facts}
 use Rattle.bench.proofs.state.Bench.inaugurate.Goals as goal
 

@@ -1,4 +1,4 @@
-use Rattle.std.proofs.Common.{◌≡◌, ◌≤◌, true, length, sym, ap, subst, arith, rules}
+use Rattle.std.proofs.Common.{◌≡◌, ◌≤◌, true, length, subst, arith, rules}
 use Rattle.bench.specs.Facts.{Place, coupled_in}
 use Rattle.bench.proofs.Places.{in_at}
 use Rattle.bench.proofs.state.Bench.place_for.Goals as goal

@@ -1,4 +1,4 @@
-use Rattle.std.proofs.Common.{◌≡◌, List, sym, ap, ◌∙◌, arith}
+use Rattle.std.proofs.Common.{List, sym, ap, ◌∙◌, arith}
 use Rattle.fleet.specs.Rows.{rows}
 use Rattle.fleet.specs.Books.{Item}
 use Rattle.fleet.specs.Consists.{identity_at}

@@ -1,7 +1,6 @@
-use Rattle.std.proofs.Common.{◌≡◌, ℕ, ◌+◌, ◌-◌, ◌*◌, ◌<◌, ◌≤◌, List, [], length, get_or, take, Some, None, sym, ap, ◌∙◌, arith}
+use Rattle.std.proofs.Common.{◌≡◌, ◌-◌, List, length, ap, ◌∙◌, arith}
 use Rattle.fleet.specs.Rows.{rows, sizes}
-use Rattle.fleet.specs.Books.{Item, listed, name_at}
-use Rattle.fleet.specs.Held.{held}
+use Rattle.fleet.specs.Books.{Item, name_at}
 use Rattle.fleet.specs.Entries.{length-rows}
 use Rattle.fleet.specs.Readings.{length-listed}
 use Rattle.fleet.specs.Means.{held_is, name_past, name_here, name_lent}

@@ -1,11 +1,8 @@
-use Rattle.std.proofs.Common.{◌≡◌, ℕ, ◌≤◌, true, false, not, length, is_some, Some, None, sym, refl, ap, ◌∙◌, ap₂, arith, length-set}
-use Rattle.train.specs.declared.refusal.Part.TheVariants.{Roster}
-use Rattle.fleet.specs.Rosters.{consist_checks}
-use Rattle.fleet.specs.Seats.{seat_of}
+use Rattle.std.proofs.Common.{◌≤◌, Some, sym, refl, ap, ◌∙◌, arith, length-set}
 use Rattle.fleet.specs.Changes.{put_means}
 use Rattle.fleet.specs.Heads.{passed_on, on_refusal}
 use Rattle.fleet.specs.Sound.{checks_lawful, filled_sound, sound_set}
-use Rattle.fleet.proofs.Crowds.{full_decided, apart_set}
+use Rattle.fleet.proofs.Crowds.{apart_set}
 use Rattle.fleet.proofs.Answered.{refused_before, refused_full, carried_out}
 use Rattle.fleet.proofs.roster.Roster.announce.Goals as goal
 

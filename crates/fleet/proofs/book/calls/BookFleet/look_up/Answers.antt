@@ -1,7 +1,7 @@
-use Rattle.std.proofs.Common.{◌≡◌, ℕ, ◌+◌, ◌-◌, ◌*◌, ◌<◌, ◌≤◌, List, [], length, get_or, take, Some, None, sym, ap, ◌∙◌, arith}
+use Rattle.std.proofs.Common.{◌≡◌, ◌<◌, List, length, sym, ap, ◌∙◌, arith}
 use Rattle.fleet.specs.Fleets.{found_in}
 use Rattle.fleet.specs.Rows.{rows, sizes}
-use Rattle.fleet.specs.Books.{Item, meaning_of, listed}
+use Rattle.fleet.specs.Books.{Item, meaning_of}
 use Rattle.fleet.specs.Entries.{length-rows}
 use Rattle.fleet.specs.Means.{held_is, found_at, meaning_none}
 use Rattle.fleet.proofs.book.calls.BookFleet.look_up.Goals as goal

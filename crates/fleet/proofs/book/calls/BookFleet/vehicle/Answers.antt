@@ -1,8 +1,8 @@
-use Rattle.std.proofs.Common.{◌≡◌, ℕ, ◌+◌, ◌-◌, ◌*◌, ◌<◌, ◌≤◌, List, [], length, get_or, take, Some, None, sym, ap, ◌∙◌, arith}
+use Rattle.std.proofs.Common.{◌≡◌, ℕ, ◌+◌, ◌-◌, ◌<◌, ◌≤◌, List, [], length, get_or, take, Some, sym, ap, ◌∙◌, arith}
 use Rattle.train.specs.declared.entries.Vehicle.{Vehicle}
 use Rattle.fleet.specs.Fleets.{vehicle_in}
 use Rattle.fleet.specs.Rows.{rows, sizes, size_of}
-use Rattle.fleet.specs.Books.{Item, meaning_of, listed, vehicle_of}
+use Rattle.fleet.specs.Books.{Item, meaning_of, listed}
 use Rattle.fleet.specs.Entries.{length-rows}
 use Rattle.fleet.specs.Means.{held_is, vehicle_at, vehicle_past, vehicle_none, meaning_none, sizes_in}
 use Rattle.fleet.proofs.book.calls.BookFleet.vehicle.Goals as goal

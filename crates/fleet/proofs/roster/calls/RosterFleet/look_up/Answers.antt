@@ -1,4 +1,4 @@
-use Rattle.std.proofs.Common.{◌≡◌, [], sym, refl, ap, ◌∙◌, arith}
+use Rattle.std.proofs.Common.{[], sym, refl, ap, ◌∙◌, arith}
 use Rattle.fleet.specs.declared.roster.Seat.{Seat}
 use Rattle.fleet.specs.Fleets.{found_in}
 use Rattle.fleet.specs.Sound.{seat_few, seat_found, seat_none}

@@ -1,4 +1,4 @@
-use Rattle.std.proofs.Common.{◌≡◌, [], sym, refl, ap, ◌∙◌, arith}
+use Rattle.std.proofs.Common.{[], sym, refl, ◌∙◌, arith}
 use Rattle.fleet.specs.declared.roster.Seat.{Seat}
 use Rattle.fleet.specs.Seats.{meaning_in}
 use Rattle.fleet.specs.Means.{vehicle_none}
