@@ -123,10 +123,10 @@ mod tests {
     fn too_long(rt: HostRuntime) -> Result<(), Fail> {
         let mut list = vec![in rt.alloc(); b'x'; MOST]?;
         let most = page(rt.alloc(), list.as_slice())?;
-        assert_eq!(rt; most.as_slice(), b"refused 1 line 1 byte 1\n");
+        assert_eq!(rt; most.as_slice(), b"refused 1 line 1 byte 1\n".as_slice());
         list.push(b'x')?;
         let more = page(rt.alloc(), list.as_slice())?;
-        assert_eq!(rt; more.as_slice(), b"too long\n");
+        assert_eq!(rt; more.as_slice(), b"too long\n".as_slice());
         Ok(())
     }
 }
