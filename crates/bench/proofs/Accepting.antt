@@ -1,6 +1,6 @@
 -- A call is accepted where its arguments are in order and what stands lets it be; and at most one of each fact stands.
 use Rattle.std.proofs.Common.{◌≡◌, ℕ, ◌≤◌, true, ◌&&◌, ◌⊎◌, List, [], ◌∷◌, length, is_some, Some, None, Option, sym, refl, ap, ◌∙◌, subst, inl, inr, arith}
-use Rattle.std.specs.List.{AllByRecursion as All}
+use Rattle.std.specs.List.{AllByRecursion}
 use Rattle.std.proofs.lemmas.Bool.{and_parts, and_from, leb-true, le-leb}
 use Rattle.train.specs.declared.identity.Identity.{Identity}
 use Rattle.train.specs.declared.name.Name.{Name}
@@ -21,7 +21,7 @@ use Rattle.bench.proofs.Sound.{run_sound}
 nothing_same : {X : Type 0} → ◌≡◌ {A = ℕ} 0 1 → X
 nothing_same z = absurd (omega arith)
 
-every_ok : (cs : List Check) → All (λ c. c.ok ≡ true) cs → every (λ c. c.ok) cs ≡ true
+every_ok : (cs : List Check) → AllByRecursion (λ c. c.ok ≡ true) cs → every (λ c. c.ok) cs ≡ true
 every_ok cs = (every_decides (λ c. c.ok) (λ c. c.ok ≡ true) (λ c. (λ z. z, λ z. z)) cs).1
 
 in_some : (x : Identity) (es : List Coupled) → coupled_in x es ≡ true → 1 ≤ length es

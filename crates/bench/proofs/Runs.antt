@@ -7,7 +7,7 @@ use Rattle.train.specs.declared.facing.Facing.{Facing}
 use Rattle.train.specs.declared.facing.Facing.TheVariants.{NotKnown, Direct, Inverse}
 use Rattle.train.specs.Facings.{code}
 use Rattle.train.specs.Identities.{same_identity}
-use Rattle.std.specs.List.{AllByRecursion as All}
+use Rattle.std.specs.List.{AllByRecursion}
 use Rattle.train.proofs.Names.{every_decides}
 use Rattle.train.proofs.Equal.{same_identity_decides}
 use Rattle.bench.specs.declared.claims.Claim.{Claim}
@@ -35,7 +35,7 @@ pub refused_leaves : (f : Facts) (k : Call) → accepted f k ≡ false → after
 refused_leaves f k e = rw e
 
 -- every check of an accepted call is met
-pub met : (f : Facts) (k : Call) → accepted f k ≡ true → All (λ c. c.ok ≡ true) (checks f k)
+pub met : (f : Facts) (k : Call) → accepted f k ≡ true → AllByRecursion (λ c. c.ok ≡ true) (checks f k)
 met f k e = (every_decides (λ c. c.ok) (λ c. c.ok ≡ true) (λ c. (λ z. z, λ z. z)) (checks f k)).0 e
 
 sized : (n : ℕ) → within 1 63 n ≡ true → 1 ≤ n

@@ -1,6 +1,6 @@
 -- What is true of the facts after every run.
 use Rattle.std.proofs.Common.{◌≡◌, ℕ, ◌^◌, ◌<◌, ◌≤◌, Bool, true, false, eqb, ltb, leb, ◌⊎◌, List, [], ◌∷◌, ◌++◌, length, Some, None, sym, refl, ap, ◌∙◌, subst, inl, inr, arith}
-use Rattle.std.specs.List.{AllByRecursion as All}
+use Rattle.std.specs.List.{AllByRecursion}
 use Rattle.std.specs.Str.{bytes_eq}
 use Rattle.std.proofs.lemmas.Bool.{and_parts, leb-true, ltb-true, cases_Bool, eqb-false}
 use Rattle.train.specs.declared.identity.Identity.{Identity}
@@ -18,11 +18,11 @@ use Rattle.bench.proofs.Runs.{met, accepted_does, refused_leaves}
 pub record Sound (f : Facts) : Type 0 where
   pub etb : f.etb < 2 ^ 32
   pub few : length f.formation ≤ 63
-  pub identities : All (λ e. is_identity e.identity.bytes ≡ true) f.formation
-  pub facings : All (λ e. known e.facing ≡ true) f.formation
+  pub identities : AllByRecursion (λ e. is_identity e.identity.bytes ≡ true) f.formation
+  pub facings : AllByRecursion (λ e. known e.facing ≡ true) f.formation
   pub apart : keeps (fresh (by bytes_eq (λ e. e.identity.bytes))) [] f.formation ≡ true
   pub names_few : length f.confirmed ≤ 63
-  pub names : All (λ n. well_formed n.bytes ≡ true) f.confirmed
+  pub names : AllByRecursion (λ n. well_formed n.bytes ≡ true) f.confirmed
   pub names_apart : keeps (fresh (by bytes_eq (λ n. n.bytes))) [] f.confirmed ≡ true
   pub listed_formed : 1 ≤ length f.confirmed → 1 ≤ length f.formation
   pub claims : (x : Identity) (c : Claim) → f.claims x ≡ Some c → (known c.direction ≡ true) × (coupled_in x f.formation ≡ true) × (1 ≤ c.vehicle) × (c.vehicle ≤ 32)
@@ -31,7 +31,7 @@ nothing_same : {X : Type 0} → ◌≡◌ {A = ℕ} 0 1 → X
 nothing_same z = absurd (omega arith)
 
 -- every entry keeps a rule that looks at it alone
-pub keeps_each : {A : Type 0} (good : A → Bool) (before xs : List A) → keeps (alone good) before xs ≡ true → All (λ x. good x ≡ true) xs
+pub keeps_each : {A : Type 0} (good : A → Bool) (before xs : List A) → keeps (alone good) before xs ≡ true → AllByRecursion (λ x. good x ≡ true) xs
 keeps_each good before [] e = tt
 keeps_each good before (x ∷ xs) e =
     let w = and_parts (good x) (keeps (alone good) (before ++ x ∷ []) xs) e in

@@ -1,6 +1,6 @@
--- All consists of a fleet, composed: the vehicles from the head are those of the fleet, one after another.
+-- AllByRecursion consists of a fleet, composed: the vehicles from the head are those of the fleet, one after another.
 use Rattle.std.proofs.Common.{◌≡◌, ℕ, ◌+◌, true, List, [], ◌∷◌, ◌++◌, map, Some, None, refl, ap, ◌∙◌, ap₂}
-use Rattle.std.specs.List.{AllByRecursion as All}
+use Rattle.std.specs.List.{AllByRecursion}
 use Rattle.std.proofs.lemmas.List.{map-append}
 use Rattle.train.specs.declared.entries.Coupled.{Coupled}
 use Rattle.train.specs.declared.entries.Vehicle.{Vehicle}
@@ -17,15 +17,15 @@ use Rattle.coach_order.specs.Orders.{direct, formation_of, facts_of, vehicle_of}
 here : (i : Item) (is : List Item) → meaning_of (i ∷ is) i.identity ≡ Some i.consist
 here i is = let e = same_self i.identity.bytes in rw e
 
-later : (i : Item) (is js : List Item) → All (λ j. below i.identity.bytes j.identity.bytes ≡ true) js → All (λ j. meaning_of is j.identity ≡ Some j.consist) js
-    → All (λ j. meaning_of (i ∷ is) j.identity ≡ Some j.consist) js
+later : (i : Item) (is js : List Item) → AllByRecursion (λ j. below i.identity.bytes j.identity.bytes ≡ true) js → AllByRecursion (λ j. meaning_of is j.identity ≡ Some j.consist) js
+    → AllByRecursion (λ j. meaning_of (i ∷ is) j.identity ≡ Some j.consist) js
 later i is [] h g = tt
 later i is (j ∷ js) h g =
     let e = below_apart i.identity.bytes j.identity.bytes h.0 in
     let one : meaning_of (i ∷ is) j.identity ≡ Some j.consist = rw e g.0 in
     (one, later i is js h.1 g.1)
 
-pub meant_each : (is : List Item) → Rising is → All (λ i. meaning_of is i.identity ≡ Some i.consist) is
+pub meant_each : (is : List Item) → Rising is → AllByRecursion (λ i. meaning_of is i.identity ≡ Some i.consist) is
 meant_each [] p = tt
 meant_each (i ∷ is) p = (here i is, later i is is p.0 (meant_each is p.1))
 
@@ -41,7 +41,7 @@ cars_told : (x : Identity) (k : ℕ) (vs : List Vehicle) → map vehicle_of (car
 cars_told x k [] = refl
 cars_told x k (v ∷ vs) = ap (λ (ws : List Vehicle). v ∷ ws) (cars_told x (k + 1) vs)
 
-pub train_told : (m : Meaning) (is : List Item) → All (λ i. m i.identity ≡ Some i.consist) is → map vehicle_of (train m (λ _. None) (formation_of is)) ≡ vehicles_in is
+pub train_told : (m : Meaning) (is : List Item) → AllByRecursion (λ i. m i.identity ≡ Some i.consist) is → map vehicle_of (train m (λ _. None) (formation_of is)) ≡ vehicles_in is
 train_told m [] h = refl
 train_told m (i ∷ is) h =
     map-append vehicle_of (stretch m (λ _. None) (direct i)) (train m (λ _. None) (formation_of is))

@@ -1,6 +1,6 @@
 -- The refusals of inaugurate and compose for all consists of a fleet, each direct, in plain words.
 use Rattle.std.proofs.Common.{◌≡◌, ℕ, ◌+◌, ◌-◌, ◌≤◌, Bool, true, false, not, ◌&&◌, ◌||◌, eqb, leb, List, [], ◌∷◌, ◌++◌, map, length, get_or, is_some, Some, None, Option, sym, refl, ap, ◌∙◌, ap₂, inl, inr, arith}
-use Rattle.std.specs.List.{AllByRecursion as All}
+use Rattle.std.specs.List.{AllByRecursion}
 use Rattle.std.specs.Str.{bytes_eq}
 use Rattle.std.proofs.ByRecursion.{All-append, All-get_or, All-weaker}
 use Rattle.std.proofs.lemmas.List.{length-map, get_or_append_left, get_or-append_right, length-append}
@@ -45,7 +45,7 @@ use Rattle.coach_order.proofs.Composed.{meant_each, no_leads, head_first, train_
 identity_good : (i : Item) → IsItem i → is_identity i.identity.bytes ≡ true
 identity_good i h = and_from (eqb (length i.identity.bytes) 16) _ (ap (λ (n : ℕ). eqb n 16) h.whole) (ap not h.real)
 
-identities_good : (is : List Item) → All IsItem is → every (λ e. is_identity e.identity.bytes) (formation_of is) ≡ true
+identities_good : (is : List Item) → AllByRecursion IsItem is → every (λ e. is_identity e.identity.bytes) (formation_of is) ≡ true
 identities_good [] h = refl
 identities_good (i ∷ is) h = ap₂ ◌&&◌ (identity_good i h.0) (identities_good is h.1)
 
@@ -74,12 +74,12 @@ inaugurated_plainly is f =
 
 -- what holds of the cars of each consist
 
-cars_all : (x : Identity) (k : ℕ) (vs : List Vehicle) → All (λ c. c.consist ≡ x) (cars x None k vs)
+cars_all : (x : Identity) (k : ℕ) (vs : List Vehicle) → AllByRecursion (λ c. c.consist ≡ x) (cars x None k vs)
 cars_all x k [] = tt
 cars_all x k (v ∷ vs) = (refl, cars_all x (k + 1) vs)
 
-train_all : (m : Meaning) (P : Car → Type 0) (Q : Item → Type 0) → ((i : Item) (c : Car) → Q i → c.consist ≡ i.identity → P c) → (is : List Item) → All Q is
-    → All P (train m (λ _. None) (formation_of is))
+train_all : (m : Meaning) (P : Car → Type 0) (Q : Item → Type 0) → ((i : Item) (c : Car) → Q i → c.consist ≡ i.identity → P c) → (is : List Item) → AllByRecursion Q is
+    → AllByRecursion P (train m (λ _. None) (formation_of is))
 train_all m P Q h [] q = tt
 train_all m P Q h (i ∷ is) q =
     All-append P (stretch m (λ _. None) (direct i)) (train m (λ _. None) (formation_of is))
@@ -87,11 +87,11 @@ train_all m P Q h (i ∷ is) q =
     (train_all m P Q h is q.1)
 
 -- none of them is inserted
-split_none : (x : Identity) (cs : List Car) → All (λ c. inserted c ≡ false) cs → split x cs ≡ false
+split_none : (x : Identity) (cs : List Car) → AllByRecursion (λ c. inserted c ≡ false) cs → split x cs ≡ false
 split_none x [] h = refl
 split_none x (c ∷ cs) h = ap₂ (λ (a b : Bool). (a && car_of x cs) || b) h.0 (split_none x cs h.1)
 
-parted_none : (cs : List Car) → All (λ c. inserted c ≡ false) cs → parted cs ≡ false
+parted_none : (cs : List Car) → AllByRecursion (λ c. inserted c ≡ false) cs → parted cs ≡ false
 parted_none [] h = refl
 parted_none (c ∷ cs) h =
     ap₂ (λ (a b : Bool). (not (inserted c) && a) || b) (split_none c.consist cs h.1) (parted_none cs h.1) ∙ off (not (inserted c))
@@ -105,7 +105,7 @@ module _ (m : Meaning) (d : Car) where
   abbrev all : List Item → List Car
   all is = train m (λ _. None) (formation_of is)
 
-  pub held_in : (n : ℕ) (is : List Item) (p : ℕ) → Rising is → All (λ i. m i.identity ≡ Some i.consist) is → 1 ≤ p → p ≤ length (all is)
+  pub held_in : (n : ℕ) (is : List Item) (p : ℕ) → Rising is → AllByRecursion (λ i. m i.identity ≡ Some i.consist) is → 1 ≤ p → p ≤ length (all is)
       → place (λ e. same_identity (get_or (all is) (p - 1) d).consist e.identity) n (formation_of is) ≡ holder n is p
   held_in n [] p r h a b = absurd (omega arith)
   held_in n (i ∷ is) p r h a b =
@@ -144,7 +144,7 @@ module _ (is : List Item) (f : IsFleet is) where
   abbrev tr : List Car
   tr = train m (λ _. None) (formation_of is)
 
-  abbrev meant : All (λ i. meaning_of is i.identity ≡ Some i.consist) is
+  abbrev meant : AllByRecursion (λ i. meaning_of is i.identity ≡ Some i.consist) is
   meant = meant_each is f.rising
 
   told : map vehicle_of tr ≡ vehicles_in is
@@ -175,7 +175,7 @@ module _ (is : List Item) (f : IsFleet is) where
             cond-false _ None _ (same_keeps ∙ n) ∙ ap (λ (k : ℕ). Some (refused_at Composing SharedName k)) q ∙ sym (cond-false _ None _ n)
       ]
 
-  present : (js : List Item) → All (λ j. meaning_of is j.identity ≡ Some j.consist) js → every (has m) (formation_of js) ≡ true
+  present : (js : List Item) → AllByRecursion (λ j. meaning_of is j.identity ≡ Some j.consist) js → every (has m) (formation_of js) ≡ true
   present [] h = refl
   present (j ∷ js) h = ap₂ ◌&&◌ (ap is_some h.0) (present js h.1)
 
@@ -234,7 +234,7 @@ module _ (is : List Item) (f : IsFleet is) where
       ]
 
 -- a full book has room
-module _ (is : List Item) (lines : All IsLine is) where
+module _ (is : List Item) (lines : AllByRecursion IsLine is) where
   abbrev count : Check
   count = must (leb (length is) 200) ConsistCount
 

@@ -1,6 +1,6 @@
 -- What the checks of a coupled fleet say of its composition, and the answer of the whole call.
 use Rattle.std.proofs.Common.{◌≡◌, ℕ, ◌-◌, ◌≤◌, true, ◌⊎◌, List, [], ◌∷◌, length, get_or, take, drop, Some, None, Ok, Err, Option, Result, sym, ap, ◌∙◌, subst, inl, inr, arith, MatchResult}
-use Rattle.std.specs.List.{AllByRecursion as All}
+use Rattle.std.specs.List.{AllByRecursion}
 use Rattle.std.proofs.lemmas.List.{take_at}
 use Rattle.std.proofs.lemmas.Bool.{leb-true}
 use Rattle.train.specs.declared.entries.Vehicle.{Vehicle}
@@ -43,7 +43,7 @@ stands is h =
 few : (is : List Item) → None ≡ composed is → length (operational (facts_of is) (meaning_of is)) ≤ 63
 few is e =
     let cs : List Check = checks (facts_of is) (meaning_of is) 4303 in
-    let ok : All (λ c. c.ok ≡ true) cs = (every_decides (λ c. c.ok) (λ c. c.ok ≡ true) (λ c. (λ z. z, λ z. z)) cs).0 (all_met Composing cs e) in
+    let ok : AllByRecursion (λ c. c.ok ≡ true) cs = (every_decides (λ c. c.ok) (λ c. c.ok ≡ true) (λ c. (λ z. z, λ z. z)) cs).0 (all_met Composing cs e) in
     let l = ap length (head_first is) in
     let b = leb-true _ 63 ok.1.1.0 in
     omega arith
@@ -106,7 +106,7 @@ import_refused t f (inr u) = inr (inl u)
 -- what the text is decides the answer, where import refuses it and where it does not
 pub decided_first : (t before : List ℕ) (f : Refusal) → length before ≡ 38206 → ImportDecided t before (Err f) → Decided t (Err f)
 decided_first t before f long d =
-    let q : (is : List Item) → All IsLine is → t ≡ list_text is → Some f ≡ refusal Text (list_checks is 38206) =
+    let q : (is : List Item) → AllByRecursion IsLine is → t ≡ list_text is → Some f ≡ refusal Text (list_checks is 38206) =
     λ is l e. d.lists is l e ∙ ap (λ (n : ℕ). refusal Text (list_checks is n)) long in
     record {
       breaks = d.breaks;
@@ -117,9 +117,9 @@ decided_first t before f long d =
 pub decided_then : (t before : List ℕ) (n : ℕ) (items : List Item) (r : Result ℕ Refusal) → length before ≡ 38206 → ImportDecided t before (Ok n) → Lists t items
     → refusal_of r ≡ uncoupled items → Decided t r
 decided_then t before n items r long d l a =
-    let q : (is : List Item) → All IsLine is → t ≡ list_text is → None ≡ refusal Text (list_checks is 38206) =
+    let q : (is : List Item) → AllByRecursion IsLine is → t ≡ list_text is → None ≡ refusal Text (list_checks is 38206) =
     λ is k e. d.lists is k e ∙ ap (λ (j : ℕ). refusal Text (list_checks is j)) long in
-    let same : (is : List Item) → All IsLine is → t ≡ list_text is → items ≡ is = λ is k e. apart items is l.lines k (sym l.text ∙ e) in
+    let same : (is : List Item) → AllByRecursion IsLine is → t ≡ list_text is → items ≡ is = λ is k e. apart items is l.lines k (sym l.text ∙ e) in
     record {
       breaks = λ f b. let z : ◌≡◌ {A = ℕ} 0 1 = let w = d.breaks f b in cc in absurd (omega arith);
       lists = λ is k e. a ∙ ap uncoupled (same is k e) ∙ ap (λ (o : Option Refusal). or_else o (uncoupled is)) (q is k e);

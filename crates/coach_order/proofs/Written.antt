@@ -1,6 +1,6 @@
 -- The operational vehicles, read back from a written composition.
 use Rattle.std.proofs.Common.{◌≡◌, ℕ, ◌+◌, ◌*◌, ◌≤◌, Bool, true, false, cond, List, [], ◌∷◌, ◌++◌, map, length, get_or, take, drop, unwrap_or, sym, refl, ap, ◌∙◌, subst, ap₂, mul-suc, arith, length-append}
-use Rattle.std.specs.List.{AllByRecursion as All}
+use Rattle.std.specs.List.{AllByRecursion}
 use Rattle.std.proofs.lemmas.List.{take_at, drop_at, get_or-append_right, append-nil}
 use Rattle.train.specs.declared.entries.Vehicle.{Vehicle}
 use Rattle.train.specs.declared.facing.Facing.{Facing}
@@ -22,7 +22,7 @@ use Rattle.coach_order.specs.Reads.{Section, Sections, row_vehicle, row_vehicles
 
 -- how long rows of one size are together
 module _ {X : Type 0} (Ok : X → Type 0) (row : ℕ → X → List ℕ) (k : ℕ) (fixed : (n : ℕ) (x : X) → Ok x → length (row n x) ≡ k) where
-  rows_long : (n : ℕ) (xs : List X) → All Ok xs → length (rows row n xs) ≡ k * length xs
+  rows_long : (n : ℕ) (xs : List X) → AllByRecursion Ok xs → length (rows row n xs) ≡ k * length xs
   rows_long n [] h = let z : k * 0 ≡ 0 = omega arith in sym z
   rows_long n (x ∷ xs) h =
       let a = length-append (row n x) (rows row (n + 1) xs) in
@@ -31,7 +31,7 @@ module _ {X : Type 0} (Ok : X → Type 0) (row : ℕ → X → List ℕ) (k : �
       let e = mul-suc k (length xs) in
       omega arith
 
-  section_stands : (xs : List X) (s : List ℕ) → All Ok xs → Section k (section row xs ++ s)
+  section_stands : (xs : List X) (s : List ℕ) → AllByRecursion Ok xs → Section k (section row xs ++ s)
   section_stands xs s h =
       let a = length-append (rows row 1 xs) s in
       let b = rows_long 1 xs h in
@@ -72,7 +72,7 @@ module _ (f : Facts) (m : Meaning) where
       ap₂ (λ (bs : List ℕ) (g : Facing). let v : Vehicle = record { name = record { bytes = bs }; facing = g } in v) a
       (ap (λ (k : ℕ). unwrap_or (coded k) NotKnown) b ∙ facing_back s.car.facing)
 
-  rows_back : (n : ℕ) (ss : List Seat) → All (λ s. Sixteen s.car.name.bytes) ss → row_vehicles (length ss) (rows row n ss) ≡ map (λ s. vehicle_of s.car) ss
+  rows_back : (n : ℕ) (ss : List Seat) → AllByRecursion (λ s. Sixteen s.car.name.bytes) ss → row_vehicles (length ss) (rows row n ss) ≡ map (λ s. vehicle_of s.car) ss
   rows_back n [] h = refl
   rows_back n (s ∷ ss) h =
       let l = row_long n s h.0 in
@@ -80,8 +80,8 @@ module _ (f : Facts) (m : Meaning) where
       (ap row_vehicle (take_at (row n s) (rows row (n + 1) ss) 24 l) ∙ row_back n s h.0)
       (ap (row_vehicles (length ss)) (drop_at (row n s) (rows row (n + 1) ss) 24 l) ∙ rows_back (n + 1) ss h.1)
 
-  module _ (h : All (λ e. Sixteen e.identity.bytes) f.formation) (g : All (λ c. Sixteen c.consist.bytes) (firsts nobody (operational f m)))
-      (i : All (λ s. Sixteen s.car.name.bytes) (seats 0 nobody (operational f m))) where
+  module _ (h : AllByRecursion (λ e. Sixteen e.identity.bytes) f.formation) (g : AllByRecursion (λ c. Sixteen c.consist.bytes) (firsts nobody (operational f m)))
+      (i : AllByRecursion (λ s. Sixteen s.car.name.bytes) (seats 0 nobody (operational f m))) where
     abbrev fs : List Car
     fs = firsts nobody (operational f m)
 

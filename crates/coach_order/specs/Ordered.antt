@@ -1,6 +1,6 @@
 -- The coach order of a fleet list: what the call answers, and what it lays out.
 use Rattle.std.specs.Prelude.{◌≡◌, ℕ, ◌⊎◌, List, map, Some, None, Ok, Err, Result}
-use Rattle.std.specs.List.{AllByRecursion as All}
+use Rattle.std.specs.List.{AllByRecursion}
 use Rattle.train.specs.declared.entries.Vehicle.{Vehicle}
 use Rattle.train.specs.declared.refusal.Part.TheVariants.{Text}
 use Rattle.train.specs.declared.refusal.Refusal.{Refusal}
@@ -16,7 +16,7 @@ use Rattle.coach_order.specs.Plain.{refusal_of_list}
 
 -- the text is the list of this fleet
 pub record Lists (t : List ℕ) (is : List Item) : Type 0 where
-  pub lines : All IsLine is
+  pub lines : AllByRecursion IsLine is
   pub fleet : IsFleet is
   pub text : t ≡ list_text is
 
@@ -49,5 +49,5 @@ Ordered t before after (Err f) = (after ≡ before) × Refused t f
 -- that of inaugurate, or else that of compose. The same in plain words.
 pub record Decided (t : List ℕ) (r : Result ℕ Refusal) : Type 0 where
   pub breaks : (f : Refusal) → Broken t f → refusal_of r ≡ Some f
-  pub lists : (is : List Item) → All IsLine is → t ≡ list_text is → refusal_of r ≡ or_else (refusal Text (list_checks is 38206)) (uncoupled is)
-  pub plain : (is : List Item) → All IsLine is → t ≡ list_text is → refusal_of r ≡ refusal_of_list is
+  pub lists : (is : List Item) → AllByRecursion IsLine is → t ≡ list_text is → refusal_of r ≡ or_else (refusal Text (list_checks is 38206)) (uncoupled is)
+  pub plain : (is : List Item) → AllByRecursion IsLine is → t ≡ list_text is → refusal_of r ≡ refusal_of_list is

@@ -1,6 +1,6 @@
 -- The page that is printed for a fleet list.
 use Rattle.std.specs.Prelude.{◌≡◌, ℕ, ◌+◌, ◌/◌, ◌%◌, ◌<◌, ◌≤◌, List, [], ◌∷◌, ◌++◌, length, Some, None, codes, decimal, Option}
-use Rattle.std.specs.List.{AllByRecursion as All}
+use Rattle.std.specs.List.{AllByRecursion}
 use Rattle.train.specs.declared.entries.Vehicle.{Vehicle}
 use Rattle.train.specs.declared.refusal.Place.{Place}
 use Rattle.train.specs.declared.refusal.Place.TheVariants.{At, InLine}
@@ -50,4 +50,4 @@ answer_text (Some f) vs = refusal_text f
 pub record Printed (t page : List ℕ) : Type 0 where
   pub long : 65535 < length t → page ≡ codes "too long" ++ 10 ∷ []
   pub breaks : length t ≤ 65535 → (f : Refusal) → Broken t f → page ≡ refusal_text f
-  pub lists : length t ≤ 65535 → (is : List Item) → All IsLine is → t ≡ list_text is → page ≡ answer_text (refusal_of_list is) (vehicles_in is)
+  pub lists : length t ≤ 65535 → (is : List Item) → AllByRecursion IsLine is → t ≡ list_text is → page ≡ answer_text (refusal_of_list is) (vehicles_in is)

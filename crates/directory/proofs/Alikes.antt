@@ -2,7 +2,7 @@
 use Rattle.std.proofs.Common.{◌≡◌, ℕ, ◌+◌, ◌*◌, ◌≤◌, Bool, true, false, cond, not, ◌&&◌, ◌||◌, leb, List, [], ◌∷◌, ◌++◌, reverse, length, sym, refl, ap, ◌∙◌, subst, ap₂, arith}
 use mathlib.Core.Path.{fun_ext}
 use mathlib.Core.List.{reverse-cons, map-map}
-use Rattle.std.specs.List.{AllByRecursion as All}
+use Rattle.std.specs.List.{AllByRecursion}
 use Rattle.std.proofs.lemmas.Bool.{leb-true}
 use Rattle.train.specs.declared.entries.Coupled.{Coupled}
 use Rattle.train.specs.declared.refusal.Part.TheVariants.{Composing}
@@ -86,11 +86,11 @@ one_lead [] h g = absurd (omega arith)
 one_lead (l ∷ []) h g = (l, refl)
 one_lead (l ∷ k ∷ ls) h g = absurd (omega arith)
 
-module _ (f : Facts) (m : Meaning) (room : ℕ) (known : All (λ e. Known e.facing) f.formation) (led : 1 ≤ length (leads f.claims f.formation)) (ways : All (λ (l : Lead). Known l.at.direction × Known l.entry.facing) (leads f.claims f.formation)) where
+module _ (f : Facts) (m : Meaning) (room : ℕ) (known : AllByRecursion (λ e. Known e.facing) f.formation) (led : 1 ≤ length (leads f.claims f.formation)) (ways : AllByRecursion (λ (l : Lead). Known l.at.direction × Known l.entry.facing) (leads f.claims f.formation)) where
   same_head : length (leads f.claims f.formation) ≤ 1 → from_head (turn_facts f) m ≡ from_head f m
   same_head h =
       let o = one_lead (leads f.claims f.formation) led h in
-      let w : Known o.0.at.direction × Known o.0.entry.facing = (subst (All (λ (l : Lead). Known l.at.direction × Known l.entry.facing)) o.1 ways).0 in
+      let w : Known o.0.at.direction × Known o.0.entry.facing = (subst (AllByRecursion (λ (l : Lead). Known l.at.direction × Known l.entry.facing)) o.1 ways).0 in
       head_same m f.claims f.formation o.0 known o.1 w.0 w.1
 
   pub same_operational : length (leads f.claims f.formation) ≤ 1 → operational (turn_facts f) m ≡ operational f m

@@ -1,7 +1,7 @@
 -- A composition asks a fleet only for the consists of the formation.
 use Rattle.std.proofs.Common.{◌≡◌, ℕ, ◌+◌, Bool, cond, ◌&&◌, List, [], ◌∷◌, ◌++◌, length, is_some, Option, refl, ap, ap₂}
 use mathlib.Core.Path.{fun_ext}
-use Rattle.std.specs.List.{flat_map, AllByRecursion as All}
+use Rattle.std.specs.List.{flat_map, AllByRecursion}
 use Rattle.std.proofs.ByRecursion.{All-weaker}
 use Rattle.train.specs.declared.identity.Identity.{Identity}
 use Rattle.train.specs.declared.entries.Coupled.{Coupled}
@@ -14,26 +14,26 @@ use Rattle.directory.specs.Cars.{met, train, turned_car, cars}
 use Rattle.directory.specs.Sections.{place, rows, entry_row, composition, vehicle_number}
 use Rattle.directory.specs.Composing.{has, in_reach, reaches, composed_into}
 
-pub joined_cong : {X Y : Type 0} (f g : X → List Y) (xs : List X) → All (λ x. f x ≡ g x) xs → flat_map f xs ≡ flat_map g xs
+pub joined_cong : {X Y : Type 0} (f g : X → List Y) (xs : List X) → AllByRecursion (λ x. f x ≡ g x) xs → flat_map f xs ≡ flat_map g xs
 joined_cong f g [] h = refl
 joined_cong f g (x ∷ xs) h = ap₂ (λ a b. a ++ b) h.0 (joined_cong f g xs h.1)
 
-pub rows_cong : {X : Type 0} (t u : ℕ → X → List ℕ) (n : ℕ) (xs : List X) → All (λ x. (k : ℕ) → t k x ≡ u k x) xs → rows t n xs ≡ rows u n xs
+pub rows_cong : {X : Type 0} (t u : ℕ → X → List ℕ) (n : ℕ) (xs : List X) → AllByRecursion (λ x. (k : ℕ) → t k x ≡ u k x) xs → rows t n xs ≡ rows u n xs
 rows_cong t u n [] h = refl
 rows_cong t u n (x ∷ xs) h = ap₂ (λ a b. a ++ b) (h.0 n) (rows_cong t u (n + 1) xs h.1)
 
 module _ {X : Type 0} (t u : X → Bool) where
-  keeps_cong : (before xs : List X) → All (λ x. t x ≡ u x) xs → keeps (alone t) before xs ≡ keeps (alone u) before xs
+  keeps_cong : (before xs : List X) → AllByRecursion (λ x. t x ≡ u x) xs → keeps (alone t) before xs ≡ keeps (alone u) before xs
   keeps_cong before [] h = refl
   keeps_cong before (x ∷ xs) h = ap₂ (λ a b. a && b) h.0 (keeps_cong (before ++ x ∷ []) xs h.1)
 
-  breach_cong : (before xs : List X) → All (λ x. t x ≡ u x) xs → first_breach (alone t) before xs ≡ first_breach (alone u) before xs
+  breach_cong : (before xs : List X) → AllByRecursion (λ x. t x ≡ u x) xs → first_breach (alone t) before xs ≡ first_breach (alone u) before xs
   breach_cong before [] h = refl
   breach_cong before (x ∷ xs) h = ap₂ (λ a b. cond a b (length before + 1)) h.0 (breach_cong (before ++ x ∷ []) xs h.1)
 
 module _ (m n : Meaning) where
   abbrev pub Same : List Coupled → Type 0
-  Same es = All (λ e. m e.identity ≡ n e.identity) es
+  Same es = AllByRecursion (λ e. m e.identity ≡ n e.identity) es
 
   pub train_cong : (claims : Identity → Option Claim) (es : List Coupled) → Same es → train m claims es ≡ train n claims es
   train_cong claims es h = joined_cong _ _ es (All-weaker _ _ (λ e q. ap (λ o. met turned_car e.facing (cars e.identity (claims e.identity) 1 (vehicles_of o))) q) es h)
@@ -66,6 +66,6 @@ module _ (m n : Meaning) where
       simp (a, b, b', c, c', d, t)
 
   -- the order from the head asks for the vehicles alone
-  pub train_vehicles : (claims : Identity → Option Claim) (es : List Coupled) → All (λ e. vehicles_of (m e.identity) ≡ vehicles_of (n e.identity)) es
+  pub train_vehicles : (claims : Identity → Option Claim) (es : List Coupled) → AllByRecursion (λ e. vehicles_of (m e.identity) ≡ vehicles_of (n e.identity)) es
       → train m claims es ≡ train n claims es
   train_vehicles claims es h = joined_cong _ _ es (All-weaker _ _ (λ e q. ap (λ vs. met turned_car e.facing (cars e.identity (claims e.identity) 1 vs)) q) es h)

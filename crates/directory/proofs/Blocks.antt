@@ -1,7 +1,7 @@
 -- The formation and its consists' vehicles, read back from the cars along the train.
 use Rattle.std.proofs.Common.{◌≡◌, ℕ, suc, ◌+◌, ◌<◌, ◌≤◌, List, [], ◌∷◌, ◌++◌, reverse, length, Option, sym, refl, ap, ◌∙◌, subst, ap₂, ⊎_elim, arith, length-append}
 use mathlib.Core.List.{reverse-cons}
-use Rattle.std.specs.List.{AllByRecursion as All}
+use Rattle.std.specs.List.{AllByRecursion}
 use Rattle.std.proofs.ByRecursion.{All-append, All-map, All-weaker}
 use Rattle.std.proofs.lemmas.Bool.{cases_eq}
 use Rattle.train.specs.declared.facing.Facing.{Facing}
@@ -21,8 +21,8 @@ use Rattle.directory.proofs.Turns.{length_turned}
 use Rattle.directory.proofs.Heart.{turned_car_twice}
 
 -- two lists that begin with all the cars of one consist
-pub blocks : (x : Identity) (a b s t : List Car) → All (λ c. c.consist ≡ x) a → All (λ c. c.consist ≡ x) b → All (λ c. c.consist ≡ x → ⊥) s
-    → All (λ c. c.consist ≡ x → ⊥) t → a ++ s ≡ b ++ t → (a ≡ b) × (s ≡ t)
+pub blocks : (x : Identity) (a b s t : List Car) → AllByRecursion (λ c. c.consist ≡ x) a → AllByRecursion (λ c. c.consist ≡ x) b → AllByRecursion (λ c. c.consist ≡ x → ⊥) s
+    → AllByRecursion (λ c. c.consist ≡ x → ⊥) t → a ++ s ≡ b ++ t → (a ≡ b) × (s ≡ t)
 blocks x [] [] s t ha hb hs ht p = (refl, p)
 blocks x [] (b ∷ bs) [] t ha hb hs ht p = nowhere (cc)
 blocks x [] (b ∷ bs) (c ∷ s) t ha hb hs ht p = let e : c ≡ b = cc in absurd (hs.0 (ap (λ z. z.consist) e ∙ hb.0))
@@ -33,15 +33,15 @@ blocks x (a ∷ as') (b ∷ bs) s t ha hb hs ht p =
     let w = blocks x as' bs s t ha.1 hb.1 hs ht (cc) in
     (ap₂ (λ y ys. y ∷ ys) e w.0, w.1)
 
-pub all_reverse : {X : Type 0} (P : X → Type 0) (xs : List X) → All P xs → All P (reverse xs)
+pub all_reverse : {X : Type 0} (P : X → Type 0) (xs : List X) → AllByRecursion P xs → AllByRecursion P (reverse xs)
 all_reverse P [] h = tt
-all_reverse P (x ∷ xs) h = subst (All P) (sym (reverse-cons x xs)) (All-append P (reverse xs) (x ∷ []) (all_reverse P xs h.1) (h.0, tt))
+all_reverse P (x ∷ xs) h = subst (AllByRecursion P) (sym (reverse-cons x xs)) (All-append P (reverse xs) (x ∷ []) (all_reverse P xs h.1) (h.0, tt))
 
 -- a car of the entry e
 abbrev pub Of : Coupled → Car → Type 0
 Of e c = (c.consist ≡ e.identity) × (c.stance ≡ e.facing)
 
-cars_own : (x : Identity) (o : Option Claim) (k : ℕ) (vs : List Vehicle) → All (λ c. (c.consist ≡ x) × (c.stance ≡ Direct)) (cars x o k vs)
+cars_own : (x : Identity) (o : Option Claim) (k : ℕ) (vs : List Vehicle) → AllByRecursion (λ c. (c.consist ≡ x) × (c.stance ≡ Direct)) (cars x o k vs)
 cars_own x o k [] = tt
 cars_own x o k (v ∷ vs) = ((refl, refl), cars_own x o (k + 1) vs)
 
@@ -49,8 +49,8 @@ length-cars : (x : Identity) (o : Option Claim) (k : ℕ) (vs : List Vehicle) �
 length-cars x o k [] = refl
 length-cars x o k (v ∷ vs) = ap suc (length-cars x o (k + 1) vs)
 
-met_own : (e : Coupled) (f : Facing) → Known f → e.facing ≡ f → (cs : List Car) → All (λ c. (c.consist ≡ e.identity) × (c.stance ≡ Direct)) cs
-    → All (Of e) (met turned_car f cs)
+met_own : (e : Coupled) (f : Facing) → Known f → e.facing ≡ f → (cs : List Car) → AllByRecursion (λ c. (c.consist ≡ e.identity) × (c.stance ≡ Direct)) cs
+    → AllByRecursion (Of e) (met turned_car f cs)
 met_own e NotKnown k q cs h = absurd k
 met_own e Direct k q cs h = All-weaker _ (Of e) (λ c w. (w.0, w.1 ∙ sym q)) cs h
 met_own e Inverse k q cs h =
@@ -66,7 +66,7 @@ met_tells NotKnown cs ds p = p
 met_tells Direct cs ds p = p
 met_tells Inverse cs ds p = sym (turned_twice turned_car turned_car_twice cs) ∙ ap (turned_list turned_car) p ∙ turned_twice turned_car turned_car_twice ds
 
-pub stretch_own : (m : Meaning) (claims : Identity → Option Claim) (e : Coupled) → Known e.facing → All (Of e) (stretch m claims e)
+pub stretch_own : (m : Meaning) (claims : Identity → Option Claim) (e : Coupled) → Known e.facing → AllByRecursion (Of e) (stretch m claims e)
 stretch_own m claims e k = met_own e e.facing k refl _ (cars_own e.identity (claims e.identity) 1 (vehicles_of (m e.identity)))
 
 length-stretch : (m : Meaning) (claims : Identity → Option Claim) (e : Coupled) → length (stretch m claims e) ≡ length (vehicles_of (m e.identity))
@@ -75,14 +75,14 @@ length-stretch m claims e = length-met e.facing _ ∙ length-cars e.identity (cl
 -- no identity twice
 abbrev pub Distinct : List Coupled → Type 0
 Distinct [] = Unit {0}
-Distinct (e ∷ es) = All (λ d. d.identity ≡ e.identity → ⊥) es × Distinct es
+Distinct (e ∷ es) = AllByRecursion (λ d. d.identity ≡ e.identity → ⊥) es × Distinct es
 
 -- an entry that has vehicles
 abbrev pub Full : Meaning → Coupled → Type 0
 Full m e = Known e.facing × (1 ≤ length (vehicles_of (m e.identity)))
 
-others : (m : Meaning) (claims : Identity → Option Claim) (x : Identity) (es : List Coupled) → All (λ d. d.identity ≡ x → ⊥) es → All (Full m) es
-    → All (λ c. c.consist ≡ x → ⊥) (train m claims es)
+others : (m : Meaning) (claims : Identity → Option Claim) (x : Identity) (es : List Coupled) → AllByRecursion (λ d. d.identity ≡ x → ⊥) es → AllByRecursion (Full m) es
+    → AllByRecursion (λ c. c.consist ≡ x → ⊥) (train m claims es)
 others m claims x [] h g = tt
 others m claims x (e ∷ es) h g =
     All-append _ (stretch m claims e) (train m claims es)
@@ -111,20 +111,20 @@ module _ (m n : Meaning) (k l : Identity → Option Claim) where
   heads e f s t h g p =
       let a = begins (stretch m k e) (rw length-stretch h.1) in
       let b = begins (stretch n l f) (rw length-stretch g.1) in
-      let oa : Of e a.0 = (subst (All (Of e)) a.2 (stretch_own m k e h.0)).0 in
-      let ob : Of f b.0 = (subst (All (Of f)) b.2 (stretch_own n l f g.0)).0 in
+      let oa : Of e a.0 = (subst (AllByRecursion (Of e)) a.2 (stretch_own m k e h.0)).0 in
+      let ob : Of f b.0 = (subst (AllByRecursion (Of f)) b.2 (stretch_own n l f g.0)).0 in
       let q : a.0 ∷ (a.1 ++ s) ≡ b.0 ∷ (b.1 ++ t) = sym (ap (λ z. z ++ s) a.2) ∙ p ∙ ap (λ z. z ++ t) b.2 in
       let c : a.0 ≡ b.0 = cc in
       entry_same e f (sym oa.0 ∙ ap (λ z. z.consist) c ∙ ob.0) (sym oa.1 ∙ ap (λ z. z.stance) c ∙ ob.1)
 
-  pub train_tells : (es fs : List Coupled) → Distinct es → Distinct fs → All (Full m) es → All (Full n) fs → train m k es ≡ train n l fs → (es ≡ fs) × All Cars es
+  pub train_tells : (es fs : List Coupled) → Distinct es → Distinct fs → AllByRecursion (Full m) es → AllByRecursion (Full n) fs → train m k es ≡ train n l fs → (es ≡ fs) × AllByRecursion Cars es
   train_tells [] [] d d' h g p = (refl, tt)
   train_tells [] (f ∷ fs) d d' h g p = absurd (empty_not n l f fs g.0 p)
   train_tells (e ∷ es) [] d d' h g p = absurd (empty_not m k e es h.0 (sym p))
   train_tells (e ∷ es) (f ∷ fs) d d' h g p =
       let q : e ≡ f = heads e f (train m k es) (train n l fs) h.0 g.0 p in
       let p' : stretch m k e ++ train m k es ≡ stretch n l e ++ train n l fs = subst (λ z. stretch m k e ++ train m k es ≡ stretch n l z ++ train n l fs) (sym q) p in
-      let n' : All (λ d. d.identity ≡ e.identity → ⊥) fs = subst (λ (z : Coupled). All (λ d. d.identity ≡ z.identity → ⊥) fs) (sym q) d'.0 in
+      let n' : AllByRecursion (λ d. d.identity ≡ e.identity → ⊥) fs = subst (λ (z : Coupled). AllByRecursion (λ d. d.identity ≡ z.identity → ⊥) fs) (sym q) d'.0 in
       let w =
       blocks e.identity (stretch m k e) (stretch n l e) (train m k es) (train n l fs)
       (All-weaker (Of e) _ (λ c z. z.0) _ (stretch_own m k e h.0.0))

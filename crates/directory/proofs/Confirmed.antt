@@ -1,7 +1,7 @@
 -- The confirmed list and the train's cars, read back from the operational order.
 use Rattle.std.proofs.Common.{◌≡◌, Bool, true, false, not, List, [], ◌∷◌, map, filter, sym, refl, ap, ◌∙◌, ap₂}
 use mathlib.Core.List.{map-map}
-use Rattle.std.specs.List.{AllByRecursion as All}
+use Rattle.std.specs.List.{AllByRecursion}
 use Rattle.std.proofs.lemmas.Bool.{and_parts, or_parts}
 use Rattle.train.proofs.Equal.{same_name_decides, same_name_sym}
 use Rattle.train.specs.Identities.{same_name}
@@ -27,7 +27,7 @@ pick_named (c ∷ cs) n = by (pick_named cs n) (same_name n c.name) refl
 pub confirmed_told : (cs : List Car) (ns : List Name) → names (map (pick cs) ns) ≡ ns
 confirmed_told cs ns = map-map (λ c. c.name) (pick cs) ns ∙ map_same (λ n. (pick cs n).name) (pick_named cs) ns
 
-pick_own : (cs : List Car) (n : Name) → All (λ c. own c ≡ true) cs → own (pick cs n) ≡ among same_name n (names cs)
+pick_own : (cs : List Car) (n : Name) → AllByRecursion (λ c. own c ≡ true) cs → own (pick cs n) ≡ among same_name n (names cs)
 pick_own [] n h = refl
 pick_own (c ∷ cs) n h = by (pick_own cs n h.1) (same_name n c.name) refl
   where
@@ -35,7 +35,7 @@ pick_own (c ∷ cs) n h = by (pick_own cs n h.1) (same_name n c.name) refl
     by r true e = rw e h.0
     by r false e = rw e r
 
-own_told : (cs : List Car) (ns : List Name) → All (λ c. own c ≡ true) cs → filter own (map (pick cs) ns) ≡ map (pick cs) (struck (names cs) ns)
+own_told : (cs : List Car) (ns : List Name) → AllByRecursion (λ c. own c ≡ true) cs → filter own (map (pick cs) ns) ≡ map (pick cs) (struck (names cs) ns)
 own_told cs [] h = refl
 own_told cs (n ∷ ns) h = by (own_told cs ns h) (among same_name n (names cs)) refl
   where
@@ -69,6 +69,6 @@ pick_self (c ∷ cs) e = by (λ h. pick_self cs h) (among same_name c.name (name
         ap₂ (λ a b. a ∷ b) (rw ((same_name_decides c.name c.name).1 refl)) (pick_skip c cs (names cs) q ∙ r z)
 
 -- the train's cars, from the operational order
-pub cars_told : (cs : List Car) (ns : List Name) → All (λ c. own c ≡ true) cs → apart same_name (names cs) ≡ true → same_names (struck (names cs) ns) (names cs) ≡ true
+pub cars_told : (cs : List Car) (ns : List Name) → AllByRecursion (λ c. own c ≡ true) cs → apart same_name (names cs) ≡ true → same_names (struck (names cs) ns) (names cs) ≡ true
     → filter own (map (pick cs) ns) ≡ cs
 cars_told cs ns h d e = own_told cs ns h ∙ ap (map (pick cs)) (same_names_equal (struck (names cs) ns) (names cs) e) ∙ pick_self cs d

@@ -1,6 +1,6 @@
 -- The leading-end part of a written composition is what the facts define.
 use Rattle.std.proofs.Common.{◌≡◌, ℕ, ◌+◌, ◌*◌, List, [], ◌∷◌, ◌++◌, length, take, drop, sym, refl, ap, ◌∙◌, subst, ap₂, append_assoc, append-nil, mul-zero, mul-suc, arith, length-append}
-use Rattle.std.specs.List.{AllByRecursion as All}
+use Rattle.std.specs.List.{AllByRecursion}
 use Rattle.std.proofs.lemmas.List.{take_at, drop_at}
 use Rattle.train.specs.declared.entries.Coupled.{Coupled}
 use Rattle.directory.specs.Sections.{nobody, Seat, rows, section, firsts, seats, consist_row, vehicle_row, lead_byte, entry_row, operational_part, status, consist_number, vehicle_number, composition, leading_end}
@@ -15,20 +15,20 @@ use Rattle.directory.proofs.RowTells.{none}
 
 -- rows of k bytes, passed over
 module _ {X : Type 0} (Ok : X → Type 0) (row : ℕ → X → List ℕ) (k : ℕ) (fixed : (n : ℕ) (x : X) → Ok x → length (row n x) ≡ k) where
-  pub behind_rows : (n : ℕ) (xs : List X) (s : List ℕ) → All Ok xs → behind k (length xs) (rows row n xs ++ s) ≡ s
+  pub behind_rows : (n : ℕ) (xs : List X) (s : List ℕ) → AllByRecursion Ok xs → behind k (length xs) (rows row n xs ++ s) ≡ s
   behind_rows n [] s h = refl
   behind_rows n (x ∷ xs) s h =
       ap (λ z. behind k (length xs) (drop k z)) (append_assoc (row n x) (rows row (n + 1) xs) s)
       ∙ ap (behind k (length xs)) (drop_at (row n x) (rows row (n + 1) xs ++ s) k (fixed n x h.0))
       ∙ behind_rows (n + 1) xs s h.1
 
-  rows_size : (n : ℕ) (xs : List X) → All Ok xs → length (rows row n xs) ≡ k * length xs
+  rows_size : (n : ℕ) (xs : List X) → AllByRecursion Ok xs → length (rows row n xs) ≡ k * length xs
   rows_size n [] h = sym (mul-zero k)
   rows_size n (x ∷ xs) h =
       length-append (row n x) (rows row (n + 1) xs) ∙ (let a = fixed n x h.0 in let b = rows_size (n + 1) xs h.1 in let c = mul-suc k (length xs) in omega arith)
 
   -- a section is whole, whatever stands behind it
-  pub section_whole : (xs : List X) (s : List ℕ) → All Ok xs → Section k (section row xs ++ s)
+  pub section_whole : (xs : List X) (s : List ℕ) → AllByRecursion Ok xs → Section k (section row xs ++ s)
   section_whole xs s h = let a = length-append (rows row 1 xs) s in let b = rows_size 1 xs h in omega arith
 
 -- a row, and the row without one byte
@@ -42,7 +42,7 @@ pub record Thin (a b : ℕ) (long short : List ℕ) : Type 0 where
   pub thin : short ≡ front ++ back
 
 module _ {X : Type 0} (Ok : X → Type 0) (row short : ℕ → X → List ℕ) (a b : ℕ) (parts : (n : ℕ) (x : X) → Ok x → Thin a b (row n x) (short n x)) where
-  pub thin_rows : (n : ℕ) (xs : List X) (s : List ℕ) → All Ok xs → thinned a b (length xs) (rows row n xs ++ s) ≡ rows short n xs
+  pub thin_rows : (n : ℕ) (xs : List X) (s : List ℕ) → AllByRecursion Ok xs → thinned a b (length xs) (rows row n xs ++ s) ≡ rows short n xs
   thin_rows n [] s h = refl
   thin_rows n (x ∷ xs) s h =
       let w = parts n x h.0 in
@@ -93,17 +93,17 @@ module _ (f : Facts) (m : Meaning) where
   vehicle_long n s h = simp length-append (omega arith)
 
   -- where the operational sections begin
-  consists_told : All (λ e. Sixteen e.identity.bytes) f.formation → consists (composition f m) ≡ operational_part f m
+  consists_told : AllByRecursion (λ e. Sixteen e.identity.bytes) f.formation → consists (composition f m) ≡ operational_part f m
   consists_told h = behind_rows (λ e. Sixteen e.identity.bytes) (entry_row m) 24 (entry_row_long m) 1 f.formation (operational_part f m) h
 
-  vehicles_told : All (λ e. Sixteen e.identity.bytes) f.formation → All (λ c. Sixteen c.consist.bytes) (firsts nobody (operational f m))
+  vehicles_told : AllByRecursion (λ e. Sixteen e.identity.bytes) f.formation → AllByRecursion (λ c. Sixteen c.consist.bytes) (firsts nobody (operational f m))
       → vehicles (composition f m) ≡ section (vehicle_row (vehicle_number f m)) (seats 0 nobody (operational f m))
   vehicles_told h g =
       ap (past 20) (consists_told h)
       ∙ behind_rows (λ c. Sixteen c.consist.bytes) (consist_row (consist_number f)) 20 consist_long 1 (firsts nobody (operational f m)) (section (vehicle_row (vehicle_number f m)) (seats 0 nobody (operational f m))) g
 
-  module _ (h : All (λ e. Sixteen e.identity.bytes) f.formation) (g : All (λ c. Sixteen c.consist.bytes) (firsts nobody (operational f m)))
-      (i : All (λ s. Sixteen s.car.name.bytes) (seats 0 nobody (operational f m))) where
+  module _ (h : AllByRecursion (λ e. Sixteen e.identity.bytes) f.formation) (g : AllByRecursion (λ c. Sixteen c.consist.bytes) (firsts nobody (operational f m)))
+      (i : AllByRecursion (λ s. Sixteen s.car.name.bytes) (seats 0 nobody (operational f m))) where
     pub part_told : leading_part (composition f m) ≡ leading_end f m
     part_told =
         let fs : List Car = firsts nobody (operational f m) in

@@ -1,6 +1,6 @@
 -- Equal leading ends of two fine facts: one confirmed list, one formation or its turn, one train.
 use Rattle.std.proofs.Common.{◌≡◌, ℕ, true, false, cond, eqb, ◌⊎◌, List, [], ◌∷◌, length, filter, sym, refl, ap, ◌∙◌, arith}
-use Rattle.std.specs.List.{AllByRecursion as All}
+use Rattle.std.specs.List.{AllByRecursion}
 use Rattle.std.proofs.lemmas.Bool.{ne_eqb}
 use Rattle.train.specs.declared.facing.Facing.TheVariants.{NotKnown}
 use Rattle.train.specs.Identities.{same_name}
@@ -21,18 +21,18 @@ use Rattle.directory.proofs.Blocks.{Distinct, Full, Cars, train_tells}
 use Rattle.directory.proofs.Oriented.{train_met, met_alike}
 
 pub record Fine (f : Facts) (m : Meaning) : Type 0 where
-  pub known : All (λ e. Known e.facing) f.formation
+  pub known : AllByRecursion (λ e. Known e.facing) f.formation
   pub way : Known (orientation f)
   pub distinct : Distinct (met turned_coupled (orientation f) f.formation)
-  pub full : All (Full m) (met turned_coupled (orientation f) f.formation)
+  pub full : AllByRecursion (Full m) (met turned_coupled (orientation f) f.formation)
   pub uniform : Uniform nobody NotKnown (operational f m)
-  pub consists : All (λ c. Sixteen c.consist.bytes) (firsts nobody (operational f m))
-  pub named : All (λ s. Sixteen s.car.name.bytes) (seats 0 nobody (operational f m))
-  pub owned : All (λ c. own c ≡ true) (from_head f m)
+  pub consists : AllByRecursion (λ c. Sixteen c.consist.bytes) (firsts nobody (operational f m))
+  pub named : AllByRecursion (λ s. Sixteen s.car.name.bytes) (seats 0 nobody (operational f m))
+  pub owned : AllByRecursion (λ c. own c ≡ true) (from_head f m)
   pub distinctly : apart same_name (names (from_head f m)) ≡ true
   pub order : in_order f.confirmed (names (from_head f m)) ≡ true
 
-order_tells : (ns ks : List Name) (cs ds : List Car) → All (λ c. own c ≡ true) cs → All (λ c. own c ≡ true) ds → apart same_name (names cs) ≡ true
+order_tells : (ns ks : List Name) (cs ds : List Car) → AllByRecursion (λ c. own c ≡ true) cs → AllByRecursion (λ c. own c ≡ true) ds → apart same_name (names cs) ≡ true
     → apart same_name (names ds) ≡ true → in_order ns (names cs) ≡ true → in_order ks (names ds) ≡ true
     → ◌≡◌ {A = ℕ} (cond (eqb 0 (length ns)) 1 2) (cond (eqb 0 (length ks)) 1 2) → ordered ns cs ≡ ordered ks ds → (ns ≡ ks) × (cs ≡ ds)
 order_tells [] [] cs ds h g a b i j s p = (refl, p)
@@ -49,7 +49,7 @@ order_tells (n ∷ ns) (k ∷ ks) cs ds h g a b i j s p =
     (e, sym (cars_told cs (n ∷ ns) h a i) ∙ ap (filter own) p ∙ cars_told ds (k ∷ ks) g b j)
 
 pub led_core : (f g : Facts) (m n : Meaning) → Fine f m → Fine g n → leading_end f m ≡ leading_end g n
-    → (f.confirmed ≡ g.confirmed) × ((g.formation ≡ f.formation) ⊎ (g.formation ≡ turned_list turned_coupled f.formation)) × (met turned_coupled (orientation f) f.formation ≡ met turned_coupled (orientation g) g.formation) × All (Cars m n f.claims g.claims) (met turned_coupled (orientation f) f.formation)
+    → (f.confirmed ≡ g.confirmed) × ((g.formation ≡ f.formation) ⊎ (g.formation ≡ turned_list turned_coupled f.formation)) × (met turned_coupled (orientation f) f.formation ≡ met turned_coupled (orientation g) g.formation) × AllByRecursion (Cars m n f.claims g.claims) (met turned_coupled (orientation f) f.formation)
 led_core f g m n h k p =
     let st : status f ≡ status g = ap (λ z. head_or z) p in
     let se : operational_sections none none (operational f m) ≡ operational_sections none none (operational g n) = ap tail_of p in

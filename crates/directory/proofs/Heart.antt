@@ -1,6 +1,6 @@
 -- A formation turned, with the claims as they were, has the same order from the head.
 use Rattle.std.proofs.Common.{◌≡◌, List, [], ◌∷◌, Some, None, Option, sym, refl}
-use Rattle.std.specs.List.{AllByRecursion as All}
+use Rattle.std.specs.List.{AllByRecursion}
 use Rattle.train.specs.declared.facing.Facing.{Facing}
 use Rattle.train.specs.declared.facing.Facing.TheVariants.{NotKnown, Direct, Inverse}
 use Rattle.train.specs.declared.entries.Coupled.{Coupled}
@@ -48,12 +48,12 @@ abbrev pub turn_lead : Lead → Lead
 turn_lead l = record { entry = turned_coupled l.entry; at = l.at }
 
 module _ (m : Meaning) (claims : Identity → Option Claim) where
-  stretches : (es : List Coupled) → All (λ e. Known e.facing) es → All (λ e. stretch m claims (turned_coupled e) ≡ turned_list turned_car (stretch m claims e)) es
+  stretches : (es : List Coupled) → AllByRecursion (λ e. Known e.facing) es → AllByRecursion (λ e. stretch m claims (turned_coupled e) ≡ turned_list turned_car (stretch m claims e)) es
   stretches [] h = tt
   stretches (e ∷ es) h =
       (met_inverse e.facing h.0 (cars e.identity (claims e.identity) 1 (vehicles_of (m e.identity))), stretches es h.1)
 
-  pub train_turned : (es : List Coupled) → All (λ e. Known e.facing) es → train m claims (turned_list turned_coupled es) ≡ turned_list turned_car (train m claims es)
+  pub train_turned : (es : List Coupled) → AllByRecursion (λ e. Known e.facing) es → train m claims (turned_list turned_coupled es) ≡ turned_list turned_car (train m claims es)
   train_turned es h = joined_turned turned_coupled turned_car (stretch m claims) es (stretches es h)
 
   lead_of_turned : (e : Coupled) (o : Option Claim) → lead_of (turned_coupled e) o ≡ turned_list turn_lead (lead_of e o)
@@ -63,12 +63,12 @@ module _ (m : Meaning) (claims : Identity → Option Claim) where
   pub leads_turned : (es : List Coupled) → leads claims (turned_list turned_coupled es) ≡ turned_list turn_lead (leads claims es)
   leads_turned es = joined_turned turned_coupled turn_lead (λ e. lead_of e (claims e.identity)) es (go es)
     where
-      go : (xs : List Coupled) → All (λ e. lead_of (turned_coupled e) (claims e.identity) ≡ turned_list turn_lead (lead_of e (claims e.identity))) xs
+      go : (xs : List Coupled) → AllByRecursion (λ e. lead_of (turned_coupled e) (claims e.identity) ≡ turned_list turn_lead (lead_of e (claims e.identity))) xs
       go [] = tt
       go (x ∷ xs) = (lead_of_turned x (claims x.identity), go xs)
 
   -- with one claim the order from the head is the same
-  pub head_same : (es : List Coupled) (l : Lead) → All (λ e. Known e.facing) es → leads claims es ≡ l ∷ [] → Known l.at.direction → Known l.entry.facing
+  pub head_same : (es : List Coupled) (l : Lead) → AllByRecursion (λ e. Known e.facing) es → leads claims es ≡ l ∷ [] → Known l.at.direction → Known l.entry.facing
       → met turned_car (orient (leads claims (turned_list turned_coupled es))) (train m claims (turned_list turned_coupled es)) ≡ met turned_car (orient (leads claims es)) (train m claims es)
   head_same es l h one kd kf =
       rw (leads_turned es, one, train_turned es h, composed-opposite l.at.direction l.entry.facing)

@@ -1,7 +1,7 @@
 -- What stands after every run, in the words of these proofs.
 use Rattle.std.proofs.Common.{◌≡◌, ◌^◌, ◌<◌, ◌≤◌, true, false, ◌↔◌, List, [], ◌∷◌, length, Some, None, Option, sym, refl, ap, ◌∙◌, ⊎_elim, arith, length-append}
 use mathlib.Core.Path.{fun_ext}
-use Rattle.std.specs.List.{AllByRecursion as All}
+use Rattle.std.specs.List.{AllByRecursion}
 use Rattle.std.proofs.ByRecursion.{All-append, All-weaker}
 use Rattle.std.proofs.lemmas.Bool.{or_cases}
 use Rattle.train.specs.declared.identity.Identity.{Identity}
@@ -17,13 +17,13 @@ use Rattle.directory.specs.Operation.{Lead, lead_of, leads}
 use Rattle.directory.proofs.Vocabulary.{nowhere, Known, known_is, Sixteen, blank, identities, apart, identity_rule, well_formed_long, keys_apart, among_coupled}
 
 pub record Kept (f : Facts) : Type 0 where
-  pub facings : All (λ e. Known e.facing) f.formation
+  pub facings : AllByRecursion (λ e. Known e.facing) f.formation
   pub claims : (x : Identity) (c : Claim) → f.claims x ≡ Some c → Known c.direction × (among same_identity x (identities f.formation) ≡ true)
   pub etb : f.etb < 2 ^ 32
-  pub sixteen : All (λ e. Sixteen e.identity.bytes) f.formation
-  pub own : All (λ e. blank e.identity ≡ false) f.formation
+  pub sixteen : AllByRecursion (λ e. Sixteen e.identity.bytes) f.formation
+  pub own : AllByRecursion (λ e. blank e.identity ≡ false) f.formation
   pub apart : apart same_identity (identities f.formation) ≡ true
-  pub confirmed : All (λ n. Sixteen n.bytes) f.confirmed
+  pub confirmed : AllByRecursion (λ n. Sixteen n.bytes) f.confirmed
   pub numbers : (x : Identity) (c : Claim) → f.claims x ≡ Some c → 1 ≤ c.vehicle
 
 pub sound_keeps : (f : Facts) → Sound f → Kept f
@@ -76,11 +76,11 @@ module _ (claims : Identity → Option Claim) where
       by (Some c) q rest = (e.identity, c, q)
 
   pub leads_all : (P : Lead → Type 0) → (es : List Coupled)
-      → ((e : Coupled) (c : Claim) → claims e.identity ≡ Some c → Known e.facing → P (record { entry = e; at = c })) → All (λ e. Known e.facing) es
-      → All P (leads claims es)
+      → ((e : Coupled) (c : Claim) → claims e.identity ≡ Some c → Known e.facing → P (record { entry = e; at = c })) → AllByRecursion (λ e. Known e.facing) es
+      → AllByRecursion P (leads claims es)
   leads_all P [] h k = tt
   leads_all P (e ∷ es) h k = All-append P (lead_of e (claims e.identity)) (leads claims es) (by (claims e.identity) refl) (leads_all P es h k.1)
     where
-      by : (o : Option Claim) → claims e.identity ≡ o → All P (lead_of e o)
+      by : (o : Option Claim) → claims e.identity ≡ o → AllByRecursion P (lead_of e o)
       by None q = tt
       by (Some c) q = (h e c q k.0, tt)

@@ -1,6 +1,6 @@
 -- The order from the head is the one that the rule tells.
 use Rattle.std.proofs.Common.{◌≡◌, ℕ, ◌+◌, List, [], ◌∷◌, ◌++◌, map, reverse, Option, sym, refl, ap, ◌∙◌}
-use Rattle.std.specs.List.{flat_map, AllByRecursion as All}
+use Rattle.std.specs.List.{flat_map, AllByRecursion}
 use Rattle.std.proofs.ByRecursion.{All-weaker}
 use Rattle.train.specs.declared.facing.Facing.{Facing}
 use Rattle.train.specs.declared.facing.Facing.TheVariants.{NotKnown, Direct, Inverse}
@@ -57,7 +57,7 @@ module _ (m : Meaning) (claims : Identity → Option Claim) where
       met_told g h e.identity (claims e.identity) (vehicles_of (m e.identity))
       ∙ ap (λ s. along s (coaches e.identity s (claims e.identity) 1 (vehicles_of (m e.identity)))) p
 
-  train_told : (o : Facing) → Known o → (es : List Coupled) → All (λ e. Known e.facing) es
+  train_told : (o : Facing) → Known o → (es : List Coupled) → AllByRecursion (λ e. Known e.facing) es
       → train m claims (met turned_coupled o es) ≡ flat_map (block m claims o) (along o es)
   train_told NotKnown k es h = absurd k
   train_told Direct k es h = joined_cong _ _ es (All-weaker _ _ (λ e z. stretch_told Direct e.facing e (facing_laws.commutative Direct e.facing) z) es h)
@@ -66,5 +66,5 @@ module _ (m : Meaning) (claims : Identity → Option Claim) where
       ∙ joined_cong _ _ (reverse es)
       (All-weaker _ _ (λ e z. stretch_told Inverse (opposite e.facing) e (opposite_as e.facing) (turn_known e.facing z)) (reverse es) (all_reverse _ es h))
 
-pub head_told : (f : Facts) (m : Meaning) → All (λ e. Known e.facing) f.formation → Known (orientation f) → from_head f m ≡ told f m
+pub head_told : (f : Facts) (m : Meaning) → AllByRecursion (λ e. Known e.facing) f.formation → Known (orientation f) → from_head f m ≡ told f m
 head_told f m h k = train_met m f.claims (orientation f) f.formation h ∙ train_told m f.claims (orientation f) k f.formation h

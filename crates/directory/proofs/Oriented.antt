@@ -1,6 +1,6 @@
 -- The claim and the formation, from what is read back.
 use Rattle.std.proofs.Common.{◌≡◌, ℕ, ◌+◌, ◌<◌, ◌≤◌, Bool, true, false, eqb, ◌⊎◌, List, Some, None, Option, sym, refl, ap, ◌∙◌, subst, inl, inr, arith}
-use Rattle.std.specs.List.{AllByRecursion as All}
+use Rattle.std.specs.List.{AllByRecursion}
 use Rattle.std.proofs.lemmas.Bool.{eq-eqb, eqb-true}
 use Rattle.train.specs.declared.facing.Facing.{Facing}
 use Rattle.train.specs.declared.facing.Facing.TheVariants.{NotKnown, Direct, Inverse}
@@ -15,7 +15,7 @@ use Rattle.train.proofs.Turns.{turned_twice}
 use Rattle.directory.proofs.Heart.{opposite_twice, train_turned}
 
 -- the train met from the head is the train of the formation met from the head
-pub train_met : (m : Meaning) (claims : Identity → Option Claim) (o : Facing) (es : List Coupled) → All (λ e. Known e.facing) es
+pub train_met : (m : Meaning) (claims : Identity → Option Claim) (o : Facing) (es : List Coupled) → AllByRecursion (λ e. Known e.facing) es
     → met turned_car o (train m claims es) ≡ train m claims (met turned_coupled o es)
 train_met m claims NotKnown es h = refl
 train_met m claims Direct es h = refl

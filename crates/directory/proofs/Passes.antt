@@ -1,6 +1,6 @@
 -- What a written answer says of the checks.
 use Rattle.std.proofs.Common.{◌≡◌, ℕ, ◌≤◌, true, List, [], length, Some, None, Option, sym, refl, ◌∙◌}
-use Rattle.std.specs.List.{AllByRecursion as All}
+use Rattle.std.specs.List.{AllByRecursion}
 use Rattle.std.proofs.lemmas.Bool.{leb-true}
 use Rattle.train.specs.declared.refusal.Part.TheVariants.{Composing}
 use Rattle.train.specs.declared.refusal.Refusal.{Refusal}
@@ -27,16 +27,16 @@ pub written_is : (o : Option Refusal) (x b : List ℕ) → outcome o x ≡ writt
 written_is None x b e = (cc, refl)
 written_is (Some f) x b e = nowhere (cc)
 
-all_ok : (cs : List Check) → refusal Composing cs ≡ None → All (λ c. c.ok ≡ true) cs
+all_ok : (cs : List Check) → refusal Composing cs ≡ None → AllByRecursion (λ c. c.ok ≡ true) cs
 all_ok cs e = (every_decides (λ c. c.ok) (λ c. c.ok ≡ true) (λ c. (λ z. z, λ z. z)) cs).0 (all_met Composing cs (sym e))
 
 -- the checks that the law asks for, by name
 pub record Passed (f : Facts) (m : Meaning) : Type 0 where
   pub formed : 1 ≤ length f.formation
-  pub present : All (λ e. has m e ≡ true) f.formation
+  pub present : AllByRecursion (λ e. has m e ≡ true) f.formation
   pub distinct : apart same_name (names (train m f.claims f.formation)) ≡ true
   pub single : length (leads f.claims f.formation) ≤ 1
-  pub reached : All (λ e. in_reach m f.claims e ≡ true) f.formation
+  pub reached : AllByRecursion (λ e. in_reach m f.claims e ≡ true) f.formation
   pub order : in_order f.confirmed (names (from_head f m)) ≡ true
 
 pub passed : (f : Facts) (m : Meaning) (room : ℕ) → refuses f m room ≡ None → Passed f m

@@ -1,6 +1,6 @@
 -- Sections of rows of one length: equal bytes, equal entries.
 use Rattle.std.proofs.Common.{◌≡◌, ℕ, ◌+◌, List, [], ◌∷◌, ◌++◌, map, length, take, drop, sym, refl, ap, ◌∙◌, ap₂, append_assoc, append-nil, arith, length-append}
-use Rattle.std.specs.List.{AllByRecursion as All}
+use Rattle.std.specs.List.{AllByRecursion}
 use Rattle.std.proofs.lemmas.List.{take_at, drop_at}
 use Rattle.train.proofs.Equal.{identity_same, name_same}
 use Rattle.train.specs.declared.facing.Facing.{Facing}
@@ -21,7 +21,7 @@ fronts a b s t e p = (
 
 -- a row of k bytes gives away the key of what it stands for
 module _ {X K : Type 0} (Ok : X → Type 0) (row : ℕ → X → List ℕ) (key : X → K) (k : ℕ) (fixed : (n : ℕ) (x : X) → Ok x → length (row n x) ≡ k) (tells : (n : ℕ) (x y : X) → Ok x → Ok y → row n x ≡ row n y → key x ≡ key y) where
-  pub rows_tell : (n : ℕ) (xs ys : List X) (s t : List ℕ) → All Ok xs → All Ok ys → length xs ≡ length ys → rows row n xs ++ s ≡ rows row n ys ++ t
+  pub rows_tell : (n : ℕ) (xs ys : List X) (s t : List ℕ) → AllByRecursion Ok xs → AllByRecursion Ok ys → length xs ≡ length ys → rows row n xs ++ s ≡ rows row n ys ++ t
       → (map key xs ≡ map key ys) × (s ≡ t)
   rows_tell n [] [] s t h g e p = (refl, p)
   rows_tell n [] (y ∷ ys) s t h g e p = absurd (omega arith)
@@ -34,7 +34,7 @@ module _ {X K : Type 0} (Ok : X → Type 0) (row : ℕ → X → List ℕ) (key 
       (ap₂ (λ a b. a ∷ b) (tells n x y h.0 g.0 w.0) r.0, r.1)
 
   -- a section with its count in front
-  pub section_tells : (xs ys : List X) (s t : List ℕ) → All Ok xs → All Ok ys → section row xs ++ s ≡ section row ys ++ t → (map key xs ≡ map key ys) × (s ≡ t)
+  pub section_tells : (xs ys : List X) (s t : List ℕ) → AllByRecursion Ok xs → AllByRecursion Ok ys → section row xs ++ s ≡ section row ys ++ t → (map key xs ≡ map key ys) × (s ≡ t)
   section_tells xs ys s t h g p =
       rows_tell 1 xs ys s t h g (cc) (cc)
 
@@ -94,8 +94,8 @@ pub vehicle_row_long : (n : ℕ) (s : Seat) → Sixteen s.car.name.bytes → len
 vehicle_row_long n s h = simp length-append (omega arith)
 
 -- the two operational sections tell the places of the consists and the rows of the vehicles
-pub sections_tell : (cs ds : List Car) → All (λ c. Sixteen c.consist.bytes) (firsts nobody cs) → All (λ c. Sixteen c.consist.bytes) (firsts nobody ds)
-    → All (λ s. Sixteen s.car.name.bytes) (seats 0 nobody cs) → All (λ s. Sixteen s.car.name.bytes) (seats 0 nobody ds)
+pub sections_tell : (cs ds : List Car) → AllByRecursion (λ c. Sixteen c.consist.bytes) (firsts nobody cs) → AllByRecursion (λ c. Sixteen c.consist.bytes) (firsts nobody ds)
+    → AllByRecursion (λ s. Sixteen s.car.name.bytes) (seats 0 nobody cs) → AllByRecursion (λ s. Sixteen s.car.name.bytes) (seats 0 nobody ds)
     → operational_sections none none cs ≡ operational_sections none none ds
     → (map spot_of (firsts nobody cs) ≡ map spot_of (firsts nobody ds)) × (map row_of (seats 0 nobody cs) ≡ map row_of (seats 0 nobody ds))
 sections_tell cs ds h g i j p =

@@ -2,7 +2,7 @@
 use Rattle.std.proofs.Common.{◌≡◌, ℕ, ◌≤◌, leb, ◌⊎◌, ◌↔◌, List, [], ◌∷◌, reverse, length, Some, None, Decides, Option, sym, refl, ap, ◌∙◌, subst, ap₂, inl, inr, arith}
 use mathlib.Core.Path.{fun_ext}
 use Rattle.std.proofs.lemmas.Bool.{leb-true, le-leb}
-use Rattle.std.specs.List.{AllByRecursion as All}
+use Rattle.std.specs.List.{AllByRecursion}
 use Rattle.std.proofs.ByRecursion.{All-map}
 use Rattle.train.specs.declared.facing.Facing.TheVariants.{Direct}
 use Rattle.train.specs.declared.identity.Identity.{Identity}
@@ -82,8 +82,8 @@ module _ (s : Side) where
   is_formed es e h = ((facts s).etb, (stands s.run (coupled (facts s).etb es)).0 (refl, e, h))
 
   -- what holds of the formation of the facts holds of the one that stands
-  on_formed : (P : Coupled → Type 0) → All P (facts s).formation → (es : List Coupled) → Formed s es → All P es
-  on_formed P h es w = subst (All P) (formed_is es w).0 h
+  on_formed : (P : Coupled → Type 0) → AllByRecursion P (facts s).formation → (es : List Coupled) → Formed s es → AllByRecursion P es
+  on_formed P h es w = subst (AllByRecursion P) (formed_is es w).0 h
 
   led_some : Led s → 1 ≤ length (leads (facts s).claims (facts s).formation)
   led_some led =
@@ -100,7 +100,7 @@ module _ (s : Side) where
   led_formed : Led s → 1 ≤ length (facts s).formation
   led_formed led = some_formed led.0 (facts s).formation ((run_keeps s.run).claims led.0 led.1 ((stands s.run (claimed led.0 led.1)).1 led.2)).1
 
-  ways : All (λ (l : Lead). Known l.at.direction × Known l.entry.facing) (leads (facts s).claims (facts s).formation)
+  ways : AllByRecursion (λ (l : Lead). Known l.at.direction × Known l.entry.facing) (leads (facts s).claims (facts s).formation)
   ways = let k = run_keeps s.run in leads_all (facts s).claims _ (facts s).formation (λ e c p q. ((k.claims e.identity c p).0, q)) k.facings
 
   says : (b : List ℕ) → answer s ≡ written b → (composition (facts s) s.fleet ≡ b) × (refuses (facts s) s.fleet s.room ≡ None)
@@ -214,7 +214,7 @@ module _ (l r : Side) where
       let cl = claims_told h.claims in
       let co = list_told h.confirmed in
       let g : turn_facts f ≡ facts r = λ i. record { etb = sym w.0 i; formation = sym w.1 i; claims = cl i; confirmed = co i } in
-      let same : All (λ e. l.fleet e.identity ≡ r.fleet e.identity) (turned_list turned_coupled f.formation) =
+      let same : AllByRecursion (λ e. l.fleet e.identity ≡ r.fleet e.identity) (turned_list turned_coupled f.formation) =
       All-map _ turned_coupled (reverse f.formation) (all_reverse _ f.formation (h.fleets f.formation (f.etb, st))) in
       let e : composed_into (turn_facts f) l.fleet l.room ≡ composed_into (facts r) r.fleet r.room =
       composed_into_cong l.fleet r.fleet (turn_facts f) l.room same ∙ ap₂ (λ u v. composed_into u r.fleet v) g h.rooms in

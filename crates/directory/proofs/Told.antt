@@ -2,7 +2,7 @@
 use Rattle.std.proofs.Common.{◌≡◌, ℕ, ◌+◌, ◌/◌, ◌%◌, ◌^◌, ◌<◌, Bool, true, false, ◌⊎◌, List, [], ◌∷◌, ◌++◌, reverse, length, get_or, take, drop, Some, None, Option, sym, refl, ap, ◌∙◌, subst, inl, inr, ⊎_elim, append_assoc, arith}
 use mathlib.Core.Path.{fun_ext}
 use mathlib.Core.List.{map-map}
-use Rattle.std.specs.List.{AllByRecursion as All}
+use Rattle.std.specs.List.{AllByRecursion}
 use Rattle.std.proofs.ByRecursion.{All-weaker}
 use Rattle.std.proofs.lemmas.Bool.{or_cases}
 use Rattle.train.proofs.Equal.{same_identity_decides, same_identity_sym}
@@ -37,7 +37,7 @@ use Rattle.directory.proofs.Fine.{all_both, all_unmet, fine, fitting}
 among_turned : (x : Identity) (es : List Coupled) → among same_identity x (identities (turned_list turned_coupled es)) ≡ among same_identity x (identities es)
 among_turned x es = ap (among same_identity x) (map-map (λ e. e.identity) turned_coupled (reverse es) ∙ sym (reverse-map (λ e. e.identity) es)) ∙ among-reverse same_identity same_identity_sym x (identities es)
 
-among_all : (P : Identity → Type 0) (x : Identity) (es : List Coupled) → All (λ d. P d.identity) es → among same_identity x (identities es) ≡ true → P x
+among_all : (P : Identity → Type 0) (x : Identity) (es : List Coupled) → AllByRecursion (λ d. P d.identity) es → among same_identity x (identities es) ≡ true → P x
 among_all P x [] h e = nowhere (cc)
 among_all P x (d ∷ es) h e =
     ⊎_elim
@@ -67,8 +67,8 @@ four_tells a b h g p =
     omega arith
 
 -- the counters of the first section
-counters_tell : (m n : Meaning) (k : ℕ) (es : List Coupled) (s t : List ℕ) → All (λ e. Sixteen e.identity.bytes) es
-    → rows (entry_row m) k es ++ s ≡ rows (entry_row n) k es ++ t → All (λ e. four (counter_of (m e.identity)) ≡ four (counter_of (n e.identity))) es
+counters_tell : (m n : Meaning) (k : ℕ) (es : List Coupled) (s t : List ℕ) → AllByRecursion (λ e. Sixteen e.identity.bytes) es
+    → rows (entry_row m) k es ++ s ≡ rows (entry_row n) k es ++ t → AllByRecursion (λ e. four (counter_of (m e.identity)) ≡ four (counter_of (n e.identity))) es
 counters_tell m n k [] s t h p = tt
 counters_tell m n k (e ∷ es) s t h p =
     let q : entry_row m k e ++ (rows (entry_row m) (k + 1) es ++ s) ≡ entry_row n k e ++ (rows (entry_row n) (k + 1) es ++ t) =
@@ -105,13 +105,13 @@ module _ (f g : Facts) (m n : Meaning) (i j : ℕ) (kf : Kept f) (kg : Kept g) (
 
   -- equal leading ends
   pub led_told : leading_end f m ≡ leading_end g n
-      → (f.claims ≡ g.claims) × (f.confirmed ≡ g.confirmed) × All (λ e. vehicles_of (m e.identity) ≡ vehicles_of (n e.identity)) f.formation × ((g.formation ≡ f.formation) ⊎ (g.formation ≡ turned_list turned_coupled f.formation)) × (met turned_coupled (orientation f) f.formation ≡ met turned_coupled (orientation g) g.formation)
+      → (f.claims ≡ g.claims) × (f.confirmed ≡ g.confirmed) × AllByRecursion (λ e. vehicles_of (m e.identity) ≡ vehicles_of (n e.identity)) f.formation × ((g.formation ≡ f.formation) ⊎ (g.formation ≡ turned_list turned_coupled f.formation)) × (met turned_coupled (orientation f) f.formation ≡ met turned_coupled (orientation g) g.formation)
   led_told p =
       let c = led_core f g m n (fine f m i kf mf ef) (fine g n j kg ng eg) p in
       let ahead : List Coupled = met turned_coupled (orientation f) f.formation in
-      let right : All (λ d. Fitting (length (vehicles_of (n d.identity))) (g.claims d.identity)) ahead =
-      subst (All (λ d. Fitting (length (vehicles_of (n d.identity))) (g.claims d.identity))) (sym c.2) (fitting g n j kg ng eg) in
-      let both : All (λ d. (vehicles_of (m d.identity) ≡ vehicles_of (n d.identity)) × (f.claims d.identity ≡ g.claims d.identity)) ahead =
+      let right : AllByRecursion (λ d. Fitting (length (vehicles_of (n d.identity))) (g.claims d.identity)) ahead =
+      subst (AllByRecursion (λ d. Fitting (length (vehicles_of (n d.identity))) (g.claims d.identity))) (sym c.2) (fitting g n j kg ng eg) in
+      let both : AllByRecursion (λ d. (vehicles_of (m d.identity) ≡ vehicles_of (n d.identity)) × (f.claims d.identity ≡ g.claims d.identity)) ahead =
       All-weaker _ _ (λ d w. tell d w.0 w.1.0 w.1.1) ahead
       (all_both (Cars m n f.claims g.claims) (λ d. Fitting (length (vehicles_of (m d.identity))) (f.claims d.identity) × Fitting (length (vehicles_of (n d.identity))) (g.claims d.identity)) ahead c.3
       (all_both (λ d. Fitting (length (vehicles_of (m d.identity))) (f.claims d.identity)) (λ d. Fitting (length (vehicles_of (n d.identity))) (g.claims d.identity)) ahead (fitting f m i kf mf ef) right)) in
@@ -119,13 +119,13 @@ module _ (f g : Facts) (m n : Meaning) (i j : ℕ) (kf : Kept f) (kg : Kept g) (
       (fun_ext (λ x. by c.1 (All-weaker _ _ (λ d w. w.1) f.formation here) x (among same_identity x (identities f.formation)) refl), c.0, All-weaker _ _ (λ d w. w.0) f.formation here, c.1, c.2)
     where
       by : (g.formation ≡ f.formation) ⊎ (g.formation ≡ turned_list turned_coupled f.formation)
-          → All (λ d. f.claims d.identity ≡ g.claims d.identity) f.formation → (x : Identity) (b : Bool) → among same_identity x (identities f.formation) ≡ b
+          → AllByRecursion (λ d. f.claims d.identity ≡ g.claims d.identity) f.formation → (x : Identity) (b : Bool) → among same_identity x (identities f.formation) ≡ b
           → f.claims x ≡ g.claims x
       by o h x true q = among_all (λ y. f.claims y ≡ g.claims y) x f.formation h q
       by o h x false q = none_outside f kf x q ∙ sym (none_outside g kg x (among_alike o x ∙ q))
 
   -- equal compositions
-  pub same_told : composition f m ≡ composition g n → (f ≡ g) × All (λ e. m e.identity ≡ n e.identity) f.formation
+  pub same_told : composition f m ≡ composition g n → (f ≡ g) × AllByRecursion (λ e. m e.identity ≡ n e.identity) f.formation
   same_told p =
       let a = fine f m i kf mf ef in
       let b = fine g n j kg ng eg in

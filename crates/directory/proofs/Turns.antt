@@ -2,7 +2,7 @@
 use Rattle.std.proofs.Common.{◌≡◌, List, [], ◌∷◌, ◌++◌, map, reverse, length, sym, refl, ap, ◌∙◌, append_assoc, append-nil}
 use mathlib.Core.List.{reverse-cons}
 use Rattle.std.proofs.lemmas.List.{map-append, length-reverse, length-map}
-use Rattle.std.specs.List.{flat_map, AllByRecursion as All}
+use Rattle.std.specs.List.{flat_map, AllByRecursion}
 use Rattle.train.specs.declared.facing.Facing.{Facing}
 use Rattle.train.specs.declared.facing.Facing.TheVariants.{NotKnown, Direct, Inverse}
 use Rattle.train.specs.Facings.{opposite}
@@ -38,7 +38,7 @@ module _ {X : Type 0} (turn : X → X) where
   met_turned h Inverse k xs = refl
 
 -- what each entry makes turns with it, so the whole turns
-pub joined_turned : {X Y : Type 0} (turnX : X → X) (turnY : Y → Y) (f : X → List Y) (xs : List X) → All (λ x. f (turnX x) ≡ turned_list turnY (f x)) xs
+pub joined_turned : {X Y : Type 0} (turnX : X → X) (turnY : Y → Y) (f : X → List Y) (xs : List X) → AllByRecursion (λ x. f (turnX x) ≡ turned_list turnY (f x)) xs
     → flat_map f (turned_list turnX xs) ≡ turned_list turnY (flat_map f xs)
 joined_turned turnX turnY f [] h = refl
 joined_turned turnX turnY f (x ∷ xs) h =

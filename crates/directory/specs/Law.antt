@@ -1,6 +1,6 @@
 -- The law of two runs: what equal compositions, equal leading ends and a turned formation say of the facts.
 use Rattle.std.specs.Prelude.{◌≡◌, ℕ, ◌⊎◌, ◌↔◌, List}
-use Rattle.std.specs.List.{AllByRecursion as All}
+use Rattle.std.specs.List.{AllByRecursion}
 use Rattle.train.specs.declared.facing.Facing.TheVariants.{Direct}
 use Rattle.train.specs.declared.identity.Identity.{Identity}
 use Rattle.train.specs.declared.name.Name.{Name}
@@ -62,11 +62,11 @@ TurnedFormation l r = (es : List Coupled) → Formed l es ↔ Formed r (turned_l
 
 -- the fleets say the same of every consist of the formation
 abbrev pub SaySame : Side → Side → Type 0
-SaySame l r = (es : List Coupled) → Formed l es → All (λ e. l.fleet e.identity ≡ r.fleet e.identity) es
+SaySame l r = (es : List Coupled) → Formed l es → AllByRecursion (λ e. l.fleet e.identity ≡ r.fleet e.identity) es
 
 -- the fleets give every consist of the formation the same vehicles
 abbrev pub SameVehicles : Side → Side → Type 0
-SameVehicles l r = (es : List Coupled) → Formed l es → All (λ e. vehicles_of (l.fleet e.identity) ≡ vehicles_of (r.fleet e.identity)) es
+SameVehicles l r = (es : List Coupled) → Formed l es → AllByRecursion (λ e. vehicles_of (l.fleet e.identity) ≡ vehicles_of (r.fleet e.identity)) es
 
 -- both compose, or both are refused under one number
 abbrev pub Alike : Outcome → Outcome → Type 0
@@ -106,7 +106,7 @@ pub record SideLaws (s : Side) (o : Outcome) : Type 0 where
   -- the orientation is direct without a claim, else the claim's direction composed with its consist's facing
   pub direct : (Led s → ⊥) → orientation (facts s) ≡ Direct
   pub oriented : (b : List ℕ) → o ≡ written b → (x : Identity) (c : Claim) (es : List Coupled) → Stands s.run (claimed x c) → Formed s es
-      → All (λ e. e.identity ≡ x → orientation (facts s) ≡ composed c.direction e.facing) es
+      → AllByRecursion (λ e. e.identity ≡ x → orientation (facts s) ≡ composed c.direction e.facing) es
   -- the order from the head is the one that the rule tells
   pub order : from_head (facts s) s.fleet ≡ told (facts s) s.fleet
   -- the leading-end part of what is written is what the facts define

@@ -1,6 +1,6 @@
 -- No identity has two seats, and what it is for a roster to be full.
 use Rattle.std.proofs.Common.{◌≡◌, ℕ, zero, suc, ◌+◌, ◌<◌, ◌≤◌, Bool, true, false, cond, not, ◌&&◌, ◌||◌, List, [], ◌∷◌, map, length, set, is_some, Some, None, Decides, Option, sym, refl, ap, ◌∙◌, inl, inr, arith}
-use Rattle.std.specs.List.{AllByRecursion as All}
+use Rattle.std.specs.List.{AllByRecursion}
 use Rattle.std.specs.Str.{bytes_eq}
 use Rattle.std.proofs.ByRecursion.{All-weaker, All-map}
 use Rattle.std.proofs.lemmas.Slice.Eq.{bytes_eq-Decides}
@@ -119,7 +119,7 @@ apart_clear id (s ∷ ss) a =
 abbrev Apart : Identity → Identity → Type 0
 Apart a b = a.bytes ≡ b.bytes → ⊥
 
-find_all : (test : Seat → Bool) (n : ℕ) (ss : List Seat) → find test n ss ≡ None → All (λ s. test s ≡ false) ss
+find_all : (test : Seat → Bool) (n : ℕ) (ss : List Seat) → find test n ss ≡ None → AllByRecursion (λ s. test s ≡ false) ss
 find_all test n [] e = tt
 find_all test n (s ∷ ss) e = let t = none_parts (test s) n (find test (n + 1) ss) e in (t.0, find_all test (n + 1) ss t.1)
 
@@ -130,13 +130,13 @@ more s ss x h = go (is_here x s)
     go true = refl
     go false = h
 
-all_present : (ss : List Seat) → All (λ s. is_free s ≡ false) ss → All (λ s. is_some (meaning_in ss s.identity) ≡ true) ss
+all_present : (ss : List Seat) → AllByRecursion (λ s. is_free s ≡ false) ss → AllByRecursion (λ s. is_some (meaning_in ss s.identity) ≡ true) ss
 all_present [] u = tt
 all_present (s ∷ ss) u =
     let h : is_here s.identity s ≡ true = and_from (used s) (same_id s.identity s.identity) (ap not u.0) (same_self s.identity.bytes) in
     (rw h refl, All-weaker (λ t. is_some (meaning_in ss t.identity) ≡ true) (λ t. is_some (meaning_in (s ∷ ss) t.identity) ≡ true) (λ t k. more s ss t.identity k) ss (all_present ss u.1))
 
-away : (id : Identity) (ss : List Seat) → All (λ s. is_free s ≡ false) ss → is_some (meaning_in ss id) ≡ false → All (λ s. Apart id s.identity) ss
+away : (id : Identity) (ss : List Seat) → AllByRecursion (λ s. is_free s ≡ false) ss → is_some (meaning_in ss id) ≡ false → AllByRecursion (λ s. Apart id s.identity) ss
 away id [] u n = tt
 away id (s ∷ ss) u n =
     let t = split (is_here id s) (consist_in s) (meaning_in ss id) n in
@@ -146,7 +146,7 @@ away id (s ∷ ss) u n =
     split true c o e = nowhere (sym e)
     split false c o e = (refl, e)
 
-all_apart : (ss : List Seat) → All (λ s. is_free s ≡ false) ss → apart_seats ss ≡ true → Pairs Apart (map (λ s. s.identity) ss)
+all_apart : (ss : List Seat) → AllByRecursion (λ s. is_free s ≡ false) ss → apart_seats ss ≡ true → Pairs Apart (map (λ s. s.identity) ss)
 all_apart [] u a = tt
 all_apart (s ∷ ss) u a =
     let t = and_parts (alone s ss) (apart_seats ss) a in
@@ -201,14 +201,14 @@ record Without (b : List ℕ) (P : Identity → Type 0) (xs : List Identity) : T
   pub rest : List Identity
   pub few : length xs ≤ suc (length rest)
   pub apart : Pairs Apart rest
-  pub each : All P rest
-  pub gone : All (λ x. bytes_eq b x.bytes ≡ false) rest
+  pub each : AllByRecursion P rest
+  pub gone : AllByRecursion (λ x. bytes_eq b x.bytes ≡ false) rest
 
-both : (P Q : Identity → Type 0) (xs : List Identity) → All P xs → All Q xs → All (λ x. P x × Q x) xs
+both : (P Q : Identity → Type 0) (xs : List Identity) → AllByRecursion P xs → AllByRecursion Q xs → AllByRecursion (λ x. P x × Q x) xs
 both P Q [] h k = tt
 both P Q (x ∷ xs) h k = ((h.0, k.0), both P Q xs h.1 k.1)
 
-without : (b : List ℕ) (P : Identity → Type 0) (xs : List Identity) → Pairs Apart xs → All P xs → Without b P xs
+without : (b : List ℕ) (P : Identity → Type 0) (xs : List Identity) → Pairs Apart xs → AllByRecursion P xs → Without b P xs
 without b P [] p h = record { rest = []; few = omega arith; apart = tt; each = tt; gone = tt }
 without b P (x ∷ xs) p h =
     elim (cases_Bool (bytes_eq b x.bytes)) [
@@ -258,7 +258,7 @@ not_here id s x o n =
     same true b e f = not-false b f
     same false b e f = nowhere e
 
-crowd : (id : Identity) (ss : List Seat) (xs : List Identity) → Pairs Apart xs → All (Stands id ss) xs → length xs ≤ others id ss
+crowd : (id : Identity) (ss : List Seat) (xs : List Identity) → Pairs Apart xs → AllByRecursion (Stands id ss) xs → length xs ≤ others id ss
 crowd id [] [] p h = omega arith
 crowd id [] (x ∷ xs) p h = nowhere h.0.1
 crowd id (s ∷ ss) xs p h =
@@ -276,7 +276,7 @@ crowd id (s ∷ ss) xs p h =
           omega arith
     ]
   where
-    joined : (P Q R : Identity → Type 0) → ((x : Identity) → P x → Q x → R x) → (xs : List Identity) → All P xs → All Q xs → All R xs
+    joined : (P Q R : Identity → Type 0) → ((x : Identity) → P x → Q x → R x) → (xs : List Identity) → AllByRecursion P xs → AllByRecursion Q xs → AllByRecursion R xs
     joined P Q R f [] h k = tt
     joined P Q R f (x ∷ xs) h k = (f x h.0 k.0, joined P Q R f xs h.1 k.1)
 

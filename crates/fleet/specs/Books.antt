@@ -1,6 +1,6 @@
 -- A book: the checks of its bytes, the fleet that it writes, and how a fleet is written as a book.
 use Rattle.std.specs.Prelude.{◌≡◌, ℕ, zero, suc, ◌+◌, ◌*◌, ◌/◌, ◌%◌, ◌≤◌, Bool, true, false, cond, ◌&&◌, List, [], ◌∷◌, ◌++◌, map, length, take, drop, Some, None, Option, ◌==◌, nat_le, slice_index}
-use Rattle.std.specs.List.{AllByRecursion as All, slice_get}
+use Rattle.std.specs.List.{AllByRecursion, slice_get}
 use Rattle.std.specs.Str.{bytes_eq}
 use Rattle.train.specs.declared.entries.Vehicle.{Vehicle}
 use Rattle.train.specs.declared.facing.Facing.{Facing}
@@ -130,7 +130,7 @@ pub record IsFleet (is : List Item) : Type 0 where
   pub short : length is ≤ 200
   pub small : length (vehicles_in is) ≤ 2000
   pub rising : Rising is
-  pub each : All IsItem is
+  pub each : AllByRecursion IsItem is
 
 -- the bytes are the book of this fleet
 pub record IsBook (bs : List ℕ) (is : List Item) : Type 0 where

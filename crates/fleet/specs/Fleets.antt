@@ -1,6 +1,6 @@
 -- What a fleet means: for each identity nothing, or one consist.
 use Rattle.std.specs.Prelude.{◌≡◌, ℕ, zero, suc, ◌≤◌, true, List, [], ◌∷◌, length, Some, None, Option, ◌≢◌}
-use Rattle.std.specs.List.{AllByRecursion as All, slice_get}
+use Rattle.std.specs.List.{AllByRecursion, slice_get}
 use Rattle.train.specs.declared.entries.Vehicle.{Vehicle}
 use Rattle.train.specs.declared.identity.Identity.{Identity}
 use Rattle.train.specs.Facings.{known}
@@ -17,7 +17,7 @@ Meaning = Identity → Option Consist
 -- a relation of each entry to every later one
 abbrev pub Pairs : {A : Type 0} → (A → A → Type 0) → List A → Type 0
 Pairs R [] = Unit {0}
-Pairs R (x ∷ xs) = All (R x) xs × Pairs R xs
+Pairs R (x ∷ xs) = AllByRecursion (R x) xs × Pairs R xs
 
 pub record IsVehicle (v : Vehicle) : Type 0 where
   pub named : IsName v.name.bytes
@@ -32,7 +32,7 @@ pub record IsConsist (c : Consist) : Type 0 where
   pub fits : c.counter ≤ 4294967295
   pub some : 1 ≤ length c.vehicles
   pub few : length c.vehicles ≤ 32
-  pub each : All IsVehicle c.vehicles
+  pub each : AllByRecursion IsVehicle c.vehicles
   pub apart : Apart c.vehicles
 
 -- what may stand at an identity: nothing, or a consist that keeps the rules

@@ -1,7 +1,7 @@
 -- A search by halving in rows whose identities rise.
 use Rattle.std.specs.Prelude.{◌≡◌, ℕ, zero, suc, ◌+◌, ◌<◌, ◌≤◌, Bool, true, false, not, List, [], ◌∷◌, ◌++◌, length, Some, None, ◌≢◌, slice_index_or, refl}
 use Rattle.std.proofs.Common.{sym, ap, subst, ◌∙◌, inl, inr, arith}
-use Rattle.std.specs.List.{AllByRecursion as All}
+use Rattle.std.specs.List.{AllByRecursion}
 use Rattle.std.specs.Str.{bytes_eq}
 use Rattle.std.proofs.ByRecursion.{All-get_or, All-from_get_or, All-weaker}
 use Rattle.std.proofs.lemmas.Slice.Eq.{bytes_eq-Decides}
@@ -45,9 +45,9 @@ Under x y = below (identity_of x) (identity_of y) ≡ true
 
 -- rows that ascend are above all before, and are no zeros
 pub record Ascent (prior : List ℕ) (rs : List (List ℕ)) : Type 0 where
-  pub above : All (λ r. below prior (identity_of r) ≡ true) rs
+  pub above : AllByRecursion (λ r. below prior (identity_of r) ≡ true) rs
   pub pairs : Pairs Under rs
-  pub real : All (λ r. bytes_eq (identity_of r) zeros ≡ false) rs
+  pub real : AllByRecursion (λ r. bytes_eq (identity_of r) zeros ≡ false) rs
 
 pub ascent : (before rs : List (List ℕ)) → keeps ascending before rs ≡ true → Ascent (last_identity before) rs
 ascent before [] e = record { above = tt; pairs = tt; real = tt }
@@ -65,12 +65,12 @@ ascent before (r ∷ rs) e =
     moved {p} {q} {rs} e h = subst (λ (x : List ℕ). Ascent x rs) e h
 
 -- and the other way round
-pub ascends : (before rs : List (List ℕ)) → All (λ r. below (last_identity before) (identity_of r) ≡ true) rs → Pairs Under rs → All (λ r. bytes_eq (identity_of r) zeros ≡ false) rs → keeps ascending before rs ≡ true
+pub ascends : (before rs : List (List ℕ)) → AllByRecursion (λ r. below (last_identity before) (identity_of r) ≡ true) rs → Pairs Under rs → AllByRecursion (λ r. bytes_eq (identity_of r) zeros ≡ false) rs → keeps ascending before rs ≡ true
 ascends before [] a p z = refl
 ascends before (r ∷ rs) a p z =
     let n : not (bytes_eq (identity_of r) zeros) ≡ true = ap not z.0 in
     let e = last_added before r in
-    let b : All (λ x. below (last_identity (before ++ r ∷ [])) (identity_of x) ≡ true) rs = subst (λ (q : List ℕ). All (λ x. below q (identity_of x) ≡ true) rs) (sym e) p.0 in
+    let b : AllByRecursion (λ x. below (last_identity (before ++ r ∷ [])) (identity_of x) ≡ true) rs = subst (λ (q : List ℕ). AllByRecursion (λ x. below q (identity_of x) ≡ true) rs) (sym e) p.0 in
     and_from _ _ (and_from _ _ n a.0) (ascends (before ++ r ∷ []) rs b p.1 z.1)
 
 pub pair_at : {A : Type 0} (R : A → A → Type 0) (xs : List A) (d : A) (i j : ℕ) → Pairs R xs → i < j → j < length xs → R (slice_index_or xs i d) (slice_index_or xs j d)
@@ -88,7 +88,7 @@ find_at p n (x ∷ xs) (suc k) d h f e =
     let z : n + 1 + k ≡ n + suc k = omega arith in
     rw a (find_at p (n + 1) xs k d (omega arith) (λ j l. f (suc j) (omega arith)) e ∙ ap (λ (m : ℕ). Some m) z)
 
-pub find_no : {A : Type 0} (p : A → Bool) (n : ℕ) (xs : List A) → All (λ x. p x ≡ false) xs → find p n xs ≡ None
+pub find_no : {A : Type 0} (p : A → Bool) (n : ℕ) (xs : List A) → AllByRecursion (λ x. p x ≡ false) xs → find p n xs ≡ None
 find_no p n [] h = refl
 find_no p n (x ∷ xs) h = let e = h.0 in rw e (find_no p (n + 1) xs h.1)
 

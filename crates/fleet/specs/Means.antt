@@ -1,7 +1,7 @@
 -- What a book means at an identity, and its names.
 use Rattle.std.specs.Prelude.{◌≡◌, ℕ, zero, suc, ◌+◌, ◌-◌, ◌*◌, ◌<◌, ◌≤◌, Bool, true, false, cond, List, [], ◌∷◌, ◌++◌, map, length, get_or, take, drop, Some, None, Option, ◌≢◌, slice_index_or, refl}
 use Rattle.std.proofs.Common.{sym, ap, ap₂, ◌∙◌, inl, inr, arith}
-use Rattle.std.specs.List.{AllByRecursion as All, slice_get}
+use Rattle.std.specs.List.{AllByRecursion, slice_get}
 use Rattle.std.specs.Str.{bytes_eq}
 use Rattle.std.proofs.ByRecursion.{All-weaker}
 use Rattle.std.proofs.lemmas.Slice.Eq.{bytes_eq-Decides}
@@ -120,7 +120,7 @@ meant_go : (b : Bool) (c : Consist) (o : Option Consist) → Lawful (Some c) →
 meant_go true c o h k = h
 meant_go false c o h k = k
 
-pub meant_lawful : (is : List Item) (id : Identity) → All IsItem is → Lawful (meaning_of is id)
+pub meant_lawful : (is : List Item) (id : Identity) → AllByRecursion IsItem is → Lawful (meaning_of is id)
 meant_lawful [] id h = tt
 meant_lawful (i ∷ is) id h = meant_go _ i.consist (meaning_of is id) h.0.consist (meant_lawful is id h.1)
 
@@ -164,7 +164,7 @@ name_lent bs table count total i offset r nm t c h o q e =
     ∙ ap (take 16) (drop-drop m 2 (tail_of bs) ∙ drop-drop (2 + m) d (drop 4 bs) ∙ drop-drop (d + (2 + m)) 4 bs ∙ ap (λ (n : ℕ). drop n bs) z)
 
 -- two fleets in rising order with one meaning are one fleet
-absent : (id : Identity) (is : List Item) → All (λ i. below id.bytes i.identity.bytes ≡ true) is → meaning_of is id ≡ None
+absent : (id : Identity) (is : List Item) → AllByRecursion (λ i. below id.bytes i.identity.bytes ≡ true) is → meaning_of is id ≡ None
 absent id [] h = refl
 absent id (i ∷ is) h = let e = above_apart id.bytes i.identity.bytes h.0 in rw e (absent id is h.1)
 
@@ -173,7 +173,7 @@ present i is = let e = same_self i.identity.bytes in rw e
 
 lesser : (i j : Item) (is js : List Item) → Rising (j ∷ js) → below i.identity.bytes j.identity.bytes ≡ true → meaning_of (i ∷ is) i.identity ≢ meaning_of (j ∷ js) i.identity
 lesser i j is js p h m =
-    let a : All (λ x. below i.identity.bytes x.identity.bytes ≡ true) (j ∷ js) =
+    let a : AllByRecursion (λ x. below i.identity.bytes x.identity.bytes ≡ true) (j ∷ js) =
     (h, All-weaker (λ x. below j.identity.bytes x.identity.bytes ≡ true) (λ x. below i.identity.bytes x.identity.bytes ≡ true) (λ x k. below_trans i.identity.bytes j.identity.bytes x.identity.bytes h k) js p.0) in
     never i.consist (sym (present i is) ∙ m ∙ absent i.identity (j ∷ js) a)
 
@@ -181,7 +181,7 @@ abbrev consist_of : Option Consist → Consist → Consist
 consist_of None d = d
 consist_of (Some c) d = c
 
-moved : (a b : List ℕ) (is : List Item) → a ≡ b → All (λ x. below a x.identity.bytes ≡ true) is → All (λ x. below b x.identity.bytes ≡ true) is
+moved : (a b : List ℕ) (is : List Item) → a ≡ b → AllByRecursion (λ x. below a x.identity.bytes ≡ true) is → AllByRecursion (λ x. below b x.identity.bytes ≡ true) is
 moved a b is e h = All-weaker (λ x. below a x.identity.bytes ≡ true) (λ x. below b x.identity.bytes ≡ true) (λ x k. ap (λ (y : List ℕ). below y x.identity.bytes) (sym e) ∙ k) is h
 
 tails : (i j : Item) (is js : List Item) → Rising (i ∷ is) → Rising (j ∷ js) → i.identity.bytes ≡ j.identity.bytes → ((id : Identity) → meaning_of (i ∷ is) id ≡ meaning_of (j ∷ js) id) → (id : Identity) → meaning_of is id ≡ meaning_of js id

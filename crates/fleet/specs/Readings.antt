@@ -1,7 +1,7 @@
 -- What the rows of a book that passes its checks are read as; written again, they are the rows.
 use Rattle.std.specs.Prelude.{◌≡◌, ℕ, suc, ◌+◌, ◌<◌, ◌≤◌, true, false, not, ◌&&◌, ◌||◌, List, [], ◌∷◌, ◌++◌, map, length, take, drop, None, ◌==◌, ◌≢◌, nat_le, slice_index, refl}
 use Rattle.std.proofs.Common.{sym, ap, ap₂, ◌∙◌, arith, drop-cons}
-use Rattle.std.specs.List.{AllByRecursion as All}
+use Rattle.std.specs.List.{AllByRecursion}
 use Rattle.std.specs.Str.{bytes_eq}
 use Rattle.std.proofs.lemmas.List.{take-append-drop, length-take-le, length-drop, length-map, drop_all, map-append}
 use Rattle.std.proofs.ByRecursion.{All-take, All-drop, All-get_or}
@@ -73,11 +73,11 @@ item_back e ws g s =
     let n = length-map ws vehicle_of ∙ s in
     ap₂ (λ (x : List ℕ) (m : ℕ). take 16 e ++ (x ++ (m ∷ []))) f n ∙ ap (λ (x : List ℕ). take 16 e ++ x) (sym (five e l)) ∙ take-append-drop 16 e
 
-all_lines : (rs : List (List ℕ)) → All GoodLine rs → All IsVehicle (map vehicle_of rs)
+all_lines : (rs : List (List ℕ)) → AllByRecursion GoodLine rs → AllByRecursion IsVehicle (map vehicle_of rs)
 all_lines [] h = tt
 all_lines (r ∷ rs) h = (vehicle_lawful r h.0, all_lines rs h.1)
 
-lines_back : (rs : List (List ℕ)) → All GoodLine rs → map vehicle_row (map vehicle_of rs) ≡ rs
+lines_back : (rs : List (List ℕ)) → AllByRecursion GoodLine rs → map vehicle_row (map vehicle_of rs) ≡ rs
 lines_back [] h = refl
 lines_back (r ∷ rs) h = ap₂ (λ x y. x ∷ y) (vehicle_back r h.0) (lines_back rs h.1)
 
@@ -97,7 +97,7 @@ counter_fits e g =
 pub size_fits : (n : ℕ) → nat_le 1 n && nat_le n 32 ≡ true → (1 ≤ n) × (n ≤ 32)
 size_fits n h = (grind (arith, nat_tests), grind (arith, nat_tests))
 
-item_lawful : (e : List ℕ) (ws : List (List ℕ)) → GoodEntry e → All GoodLine ws → length ws ≡ size_of e → keeps (fresh (by bytes_eq name_of)) [] ws ≡ true → IsItem (item_of e ws)
+item_lawful : (e : List ℕ) (ws : List (List ℕ)) → GoodEntry e → AllByRecursion GoodLine ws → length ws ≡ size_of e → keeps (fresh (by bytes_eq name_of)) [] ws ≡ true → IsItem (item_of e ws)
 item_lawful e ws g a s r =
     let l = g.long in
     let z = size_fits (size_of e) g.size in
@@ -121,7 +121,7 @@ pub length-listed : (es vs : List (List ℕ)) → length (listed es vs) ≡ leng
 length-listed [] vs = refl
 length-listed (e ∷ es) vs = ap suc (length-listed es (drop (size_of e) vs))
 
-all_listed : (P : List ℕ → Type 0) (es vs : List (List ℕ)) → All (λ e. P (identity_of e)) es → All (λ i. P i.identity.bytes) (listed es vs)
+all_listed : (P : List ℕ → Type 0) (es vs : List (List ℕ)) → AllByRecursion (λ e. P (identity_of e)) es → AllByRecursion (λ i. P i.identity.bytes) (listed es vs)
 all_listed P [] vs h = tt
 all_listed P (e ∷ es) vs h = (h.0, all_listed P es (drop (size_of e) vs) h.1)
 
@@ -130,7 +130,7 @@ read_rising [] vs p = tt
 read_rising (e ∷ es) vs p =
     (all_listed (λ b. below (identity_of e) b ≡ true) es (drop (size_of e) vs) p.0, read_rising es (drop (size_of e) vs) p.1)
 
-pub read_lawful : (n : ℕ) (es vs : List (List ℕ)) → All GoodEntry es → All GoodLine vs → sizes es ≡ length vs → refusal Book (apart_checks n es vs) ≡ None → All IsItem (listed es vs)
+pub read_lawful : (n : ℕ) (es vs : List (List ℕ)) → AllByRecursion GoodEntry es → AllByRecursion GoodLine vs → sizes es ≡ length vs → refusal Book (apart_checks n es vs) ≡ None → AllByRecursion IsItem (listed es vs)
 read_lawful n [] vs g a s e = tt
 read_lawful n (r ∷ es) vs g a s e =
     let t = first_met Book (behind n (each (fresh (by bytes_eq name_of)) Repeated (take (size_of r) vs))) (refusal Book (apart_checks (n + size_of r) es (drop (size_of r) vs))) e in
@@ -140,7 +140,7 @@ read_lawful n (r ∷ es) vs g a s e =
       read_lawful (n + size_of r) es (drop (size_of r) vs) g.1 (All-drop GoodLine (size_of r) vs a) (omega arith) t.1,
     )
 
-pub read_entries : (es vs : List (List ℕ)) → All GoodEntry es → sizes es ≡ length vs → map item_row (listed es vs) ≡ es
+pub read_entries : (es vs : List (List ℕ)) → AllByRecursion GoodEntry es → sizes es ≡ length vs → map item_row (listed es vs) ≡ es
 read_entries [] vs g s = refl
 read_entries (r ∷ es) vs g s =
     let l = length-drop (size_of r) vs in
@@ -151,7 +151,7 @@ pub none_left : (vs : List (List ℕ)) → 0 ≡ length vs → [] ≡ vs
 none_left [] e = refl
 none_left (v ∷ vs) e = absurd (omega arith)
 
-pub read_lines : (es vs : List (List ℕ)) → All GoodLine vs → sizes es ≡ length vs → map vehicle_row (vehicles_in (listed es vs)) ≡ vs
+pub read_lines : (es vs : List (List ℕ)) → AllByRecursion GoodLine vs → sizes es ≡ length vs → map vehicle_row (vehicles_in (listed es vs)) ≡ vs
 read_lines [] vs a s = none_left vs s
 read_lines (r ∷ es) vs a s =
     let l = length-drop (size_of r) vs in

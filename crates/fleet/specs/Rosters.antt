@@ -1,6 +1,6 @@
 -- What a roster's calls do, by its meaning.
 use Rattle.std.specs.Prelude.{◌≡◌, ℕ, Bool, true, cond, not, ◌&&◌, List, [], ◌∷◌, ◌++◌, length, is_some, Some, None, Decides, Option, ◌==◌, ◌≢◌, nat_le}
-use Rattle.std.specs.List.{AllByRecursion as All}
+use Rattle.std.specs.List.{AllByRecursion}
 use Rattle.std.specs.Str.{bytes_eq}
 use Rattle.train.specs.declared.entries.Vehicle.{Vehicle}
 use Rattle.train.specs.declared.identity.Identity.{Identity}
@@ -28,8 +28,8 @@ pub record Full (m : Meaning) (id : Identity) : Type 0 where
   pub others : List Identity
   pub count : length others ≡ 63
   pub apart : Pairs (λ a b. a.bytes ≢ b.bytes) others
-  pub other : All (λ x. x.bytes ≢ id.bytes) others
-  pub present : All (λ x. is_some (m x) ≡ true) others
+  pub other : AllByRecursion (λ x. x.bytes ≢ id.bytes) others
+  pub present : AllByRecursion (λ x. is_some (m x) ≡ true) others
 
 -- the checks of a consist that is announced
 abbrev pub consist_checks : Identity → ℕ → List Vehicle → List Check

@@ -2,7 +2,7 @@
 use Rattle.std.specs.Prelude.{◌≡◌, ℕ, zero, suc, ◌+◌, ◌-◌, ◌<◌, ◌≤◌, Bool, true, false, cond, not, ◌&&◌, List, [], ◌∷◌, ◌++◌, map, length, get_or, take, drop, is_some, Some, None, Option, ◌==◌, ◌≢◌, nat_le, slice_index_or, slice_set, refl}
 use Rattle.std.proofs.Common.{sym, ap, ap₂, ◌∙◌, inl, inr, arith}
 use borrow.Rule.Slice.PartMut.{post_of}
-use Rattle.std.specs.List.{AllByRecursion as All, slice_get}
+use Rattle.std.specs.List.{AllByRecursion, slice_get}
 use Rattle.std.specs.Str.{bytes_eq}
 use Rattle.std.proofs.lemmas.List.{length-append, length-drop, length-take-le, get_or-take}
 use Rattle.std.proofs.lemmas.Option.{slice_get-get_or, slice_get_past}
@@ -30,7 +30,7 @@ use Rattle.fleet.specs.Readings.{counter_some, size_fits}
 use Rattle.fleet.specs.Changes.{head_zero, head_suc}
 use Rattle.fleet.specs.Whole.{not_some}
 
-each_lawful : (vs : List Vehicle) → All (λ v. well_formed v.name.bytes ≡ true) vs → All (λ v. known v.facing ≡ true) vs → All IsVehicle vs
+each_lawful : (vs : List Vehicle) → AllByRecursion (λ v. well_formed v.name.bytes ≡ true) vs → AllByRecursion (λ v. known v.facing ≡ true) vs → AllByRecursion IsVehicle vs
 each_lawful [] h k = tt
 each_lawful (v ∷ vs) h k = (record { named = (name_rule v.name.bytes).0 h.0; faced = k.0 }, each_lawful vs h.1 k.1)
 

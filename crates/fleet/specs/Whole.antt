@@ -1,7 +1,7 @@
 -- The bytes that are accepted are the books of fleets, and are read as those.
 use Rattle.std.specs.Prelude.{◌≡◌, ℕ, ◌+◌, ◌*◌, ◌<◌, ◌≤◌, true, false, List, [], ◌∷◌, ◌++◌, map, length, drop, is_some, Some, None, Option, ◌==◌, nat_le, slice_index, slice_index_or, refl}
 use Rattle.std.proofs.Common.{sym, ap, ap₂, subst, ◌∙◌, arith, drop-cons}
-use Rattle.std.specs.List.{AllByRecursion as All}
+use Rattle.std.specs.List.{AllByRecursion}
 use Rattle.std.specs.Str.{bytes_eq}
 use Rattle.std.proofs.ByRecursion.{All-take, All-drop, All-get_or}
 use Rattle.std.proofs.lemmas.List.{take_at, drop_at, take-append-drop, length-append, length-map, length-drop, length-take-le}
@@ -54,11 +54,11 @@ head_told bs t u v =
 -- what the checks of the entries say, where none refuses
 pub record Passed (es : List (List ℕ)) (v : ℕ) (vs : List (List ℕ)) : Type 0 where
   pub rising : keeps ascending [] es ≡ true
-  pub counters : All (λ e. counted e ≡ true) es
-  pub sizes_fit : All (λ e. sized e ≡ true) es
+  pub counters : AllByRecursion (λ e. counted e ≡ true) es
+  pub sizes_fit : AllByRecursion (λ e. sized e ≡ true) es
   pub sum : sizes es ≡ v
-  pub names : All (λ r. named r ≡ true) vs
-  pub facings : All (λ r. faced r ≡ true) vs
+  pub names : AllByRecursion (λ r. named r ≡ true) vs
+  pub facings : AllByRecursion (λ r. faced r ≡ true) vs
   pub apart : refusal Book (apart_checks 0 es vs) ≡ None
 
 pub passed : (es : List (List ℕ)) (v : ℕ) (vs : List (List ℕ)) → refusal Book (entry_checks es v vs) ≡ None → Passed es v vs
@@ -79,23 +79,23 @@ passed es v vs e =
       apart = g.1;
     }
 
-good_entries : (es : List (List ℕ)) → All (λ r. length r ≡ 21) es → All Bytes es → All (λ r. bytes_eq (identity_of r) zeros ≡ false) es → All (λ r. counted r ≡ true) es → All (λ r. sized r ≡ true) es → All GoodEntry es
+good_entries : (es : List (List ℕ)) → AllByRecursion (λ r. length r ≡ 21) es → AllByRecursion Bytes es → AllByRecursion (λ r. bytes_eq (identity_of r) zeros ≡ false) es → AllByRecursion (λ r. counted r ≡ true) es → AllByRecursion (λ r. sized r ≡ true) es → AllByRecursion GoodEntry es
 good_entries [] l b z c s = tt
 good_entries (e ∷ es) l b z c s =
     (record { long = l.0; bytes = b.0; real = z.0; counter = c.0; size = s.0 }, good_entries es l.1 b.1 z.1 c.1 s.1)
 
-good_lines : (vs : List (List ℕ)) → All (λ r. length r ≡ 17) vs → All (λ r. named r ≡ true) vs → All (λ r. faced r ≡ true) vs → All GoodLine vs
+good_lines : (vs : List (List ℕ)) → AllByRecursion (λ r. length r ≡ 17) vs → AllByRecursion (λ r. named r ≡ true) vs → AllByRecursion (λ r. faced r ≡ true) vs → AllByRecursion GoodLine vs
 good_lines [] l n f = tt
 good_lines (v ∷ vs) l n f = (record { long = l.0; name = n.0; facing = f.0 }, good_lines vs l.1 n.1 f.1)
 
 -- entries that pass, of two parts of the right length
 module _ (es vs : List ℕ) (c v : ℕ) (l : length es ≡ c * 21) (m : length vs ≡ v * 17) (b : Bytes es) (e : refusal Book (entry_checks (rows 21 c es) v (rows 17 v vs)) ≡ None) where
-  part_entries : All GoodEntry (rows 21 c es)
+  part_entries : AllByRecursion GoodEntry (rows 21 c es)
   part_entries =
       let p = passed (rows 21 c es) v (rows 17 v vs) e in
       good_entries (rows 21 c es) (rows_long 21 c es (omega arith)) (rows_bytes 21 c es b) (ascent [] (rows 21 c es) p.rising).real p.counters p.sizes_fit
 
-  part_lines : All GoodLine (rows 17 v vs)
+  part_lines : AllByRecursion GoodLine (rows 17 v vs)
   part_lines =
       let p = passed (rows 21 c es) v (rows 17 v vs) e in
       good_lines (rows 17 v vs) (rows_long 17 v vs (omega arith)) p.names p.facings
@@ -103,7 +103,7 @@ module _ (es vs : List ℕ) (c v : ℕ) (l : length es ≡ c * 21) (m : length v
   part_sizes : sizes (rows 21 c es) ≡ length (rows 17 v vs)
   part_sizes = (passed (rows 21 c es) v (rows 17 v vs) e).sum ∙ sym (length-rows 17 v vs)
 
-  part_lawful : All IsItem (listed (rows 21 c es) (rows 17 v vs))
+  part_lawful : AllByRecursion IsItem (listed (rows 21 c es) (rows 17 v vs))
   part_lawful = read_lawful 0 (rows 21 c es) (rows 17 v vs) part_entries part_lines part_sizes (passed (rows 21 c es) v (rows 17 v vs) e).apart
 
   part_count : length (listed (rows 21 c es) (rows 17 v vs)) ≡ c

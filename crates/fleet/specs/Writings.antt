@@ -1,7 +1,7 @@
 -- The rows that a fleet is written as pass the checks, and are read as that fleet.
 use Rattle.std.specs.Prelude.{◌≡◌, ℕ, ◌+◌, ◌-◌, ◌≤◌, true, false, not, ◌&&◌, ◌||◌, List, [], ◌∷◌, ◌++◌, map, length, take, drop, replicate, None, ◌==◌, ◌≢◌, nat_le, slice_index, refl}
 use Rattle.std.proofs.Common.{sym, ap, ap₂, subst, ◌∙◌, arith}
-use Rattle.std.specs.List.{AllByRecursion as All}
+use Rattle.std.specs.List.{AllByRecursion}
 use Rattle.std.specs.Str.{bytes_eq}
 use Rattle.std.proofs.lemmas.List.{take_at, drop_at, length-append, length-map, map-append, get_or-append_right, length-replicate}
 use Rattle.std.proofs.ByRecursion.{All-append}
@@ -91,7 +91,7 @@ module _ (v : Vehicle) (g : IsVehicle v) where
   line_long : length (vehicle_row v) ≡ 17
   line_long = length-append v.name.bytes (code v.facing ∷ []) ∙ ap (λ (n : ℕ). n + 1) (name_long v.name.bytes g.named)
 
-lines_are : (vs : List Vehicle) → All IsVehicle vs → map vehicle_of (map vehicle_row vs) ≡ vs
+lines_are : (vs : List Vehicle) → AllByRecursion IsVehicle vs → map vehicle_of (map vehicle_row vs) ≡ vs
 lines_are [] h = refl
 lines_are (v ∷ vs) h = ap₂ (λ x y. x ∷ y) (line_back v h.0) (lines_are vs h.1)
 
@@ -132,12 +132,12 @@ item_sized : (i : Item) → IsItem i → sized (item_row i) ≡ true
 item_sized i g =
     ap (λ (n : ℕ). nat_le 1 n && nat_le n 32) (row_size i g.whole) ∙ some_size (length i.consist.vehicles) g.consist.some g.consist.few
 
-pub written_is : (is : List Item) → All IsItem is → listed (map item_row is) (map vehicle_row (vehicles_in is)) ≡ is
+pub written_is : (is : List Item) → AllByRecursion IsItem is → listed (map item_row is) (map vehicle_row (vehicles_in is)) ≡ is
 written_is [] h = refl
 written_is (i ∷ is) h =
     ap₂ (λ x y. x ∷ y) (item_is i h.0 (vehicles_in is)) (ap (listed (map item_row is)) (after i h.0 (vehicles_in is)) ∙ written_is is h.1)
 
-written_apart : (n : ℕ) (is : List Item) → All IsItem is → refusal Book (apart_checks n (map item_row is) (map vehicle_row (vehicles_in is))) ≡ None
+written_apart : (n : ℕ) (is : List Item) → AllByRecursion IsItem is → refusal Book (apart_checks n (map item_row is) (map vehicle_row (vehicles_in is))) ≡ None
 written_apart n [] h = refl
 written_apart n (i ∷ is) h =
     none_first Book
@@ -146,32 +146,32 @@ written_apart n (i ∷ is) h =
     (item_apart i h.0 (vehicles_in is))
     (ap (λ vs. refusal Book (apart_checks (n + size_of (item_row i)) (map item_row is) vs)) (after i h.0 (vehicles_in is)) ∙ written_apart (n + size_of (item_row i)) is h.1)
 
-of_items : (P : List ℕ → Type 0) → ((i : Item) → IsItem i → P (item_row i)) → (is : List Item) → All IsItem is → All P (map item_row is)
+of_items : (P : List ℕ → Type 0) → ((i : Item) → IsItem i → P (item_row i)) → (is : List Item) → AllByRecursion IsItem is → AllByRecursion P (map item_row is)
 of_items P f [] h = tt
 of_items P f (i ∷ is) h = (f i h.0, of_items P f is h.1)
 
-of_lines : (P : List ℕ → Type 0) → ((v : Vehicle) → IsVehicle v → P (vehicle_row v)) → (vs : List Vehicle) → All IsVehicle vs → All P (map vehicle_row vs)
+of_lines : (P : List ℕ → Type 0) → ((v : Vehicle) → IsVehicle v → P (vehicle_row v)) → (vs : List Vehicle) → AllByRecursion IsVehicle vs → AllByRecursion P (map vehicle_row vs)
 of_lines P f [] h = tt
 of_lines P f (v ∷ vs) h = (f v h.0, of_lines P f vs h.1)
 
 -- rising identities, of the rows
-above_rows : (x y : List ℕ) → x ≡ y → (is : List Item) → All IsItem is → All (λ j. below y j.identity.bytes ≡ true) is → All (λ r. below x (identity_of r) ≡ true) (map item_row is)
+above_rows : (x y : List ℕ) → x ≡ y → (is : List Item) → AllByRecursion IsItem is → AllByRecursion (λ j. below y j.identity.bytes ≡ true) is → AllByRecursion (λ r. below x (identity_of r) ≡ true) (map item_row is)
 above_rows x y e [] h a = tt
 above_rows x y e (i ∷ is) h a = (ap₂ below e (row_identity i h.0.whole) ∙ a.0, above_rows x y e is h.1 a.1)
 
-written_pairs : (is : List Item) → All IsItem is → Rising is → Pairs Under (map item_row is)
+written_pairs : (is : List Item) → AllByRecursion IsItem is → Rising is → Pairs Under (map item_row is)
 written_pairs [] h p = tt
 written_pairs (i ∷ is) h p = (above_rows (identity_of (item_row i)) i.identity.bytes (row_identity i h.0.whole) is h.1 p.0, written_pairs is h.1 p.1)
 
 -- every identity stands above no bytes at all
-first_rows : (is : List Item) → All IsItem is → All (λ r. below [] (identity_of r) ≡ true) (map item_row is)
+first_rows : (is : List Item) → AllByRecursion IsItem is → AllByRecursion (λ r. below [] (identity_of r) ≡ true) (map item_row is)
 first_rows is h = of_items (λ r. below [] (identity_of r) ≡ true) (λ i g. ap (below []) (row_identity i g.whole) ∙ some i.identity.bytes g.whole) is h
   where
     some : (bs : List ℕ) → length bs ≡ 16 → below [] bs ≡ true
     some [] l = absurd (omega arith)
     some (b ∷ bs) l = refl
 
-written_sizes : (is : List Item) → All IsItem is → sizes (map item_row is) ≡ length (vehicles_in is)
+written_sizes : (is : List Item) → AllByRecursion IsItem is → sizes (map item_row is) ≡ length (vehicles_in is)
 written_sizes [] h = refl
 written_sizes (i ∷ is) h =
     let a = row_size i h.0.whole in
@@ -179,7 +179,7 @@ written_sizes (i ∷ is) h =
     let c = length-append i.consist.vehicles (vehicles_in is) in
     omega arith
 
-all_vehicles : (is : List Item) → All IsItem is → All IsVehicle (vehicles_in is)
+all_vehicles : (is : List Item) → AllByRecursion IsItem is → AllByRecursion IsVehicle (vehicles_in is)
 all_vehicles [] h = tt
 all_vehicles (i ∷ is) h = All-append IsVehicle i.consist.vehicles (vehicles_in is) h.0.consist.each (all_vehicles is h.1)
 
@@ -191,7 +191,7 @@ all_met : (es : List (List ℕ)) (v : ℕ) (vs : List (List ℕ)) → keeps asce
     → keeps (alone named) [] vs ≡ true → keeps (alone faced) [] vs ≡ true → refusal Book (apart_checks 0 es vs) ≡ None → refusal Book (entry_checks es v vs) ≡ None
 all_met es v vs a b c d e f g = rw (a, b, c, d, e, f) g
 
-pub written_passes : (is : List Item) → Rising is → All IsItem is → refusal Book (entry_checks (map item_row is) (length (vehicles_in is)) (map vehicle_row (vehicles_in is))) ≡ None
+pub written_passes : (is : List Item) → Rising is → AllByRecursion IsItem is → refusal Book (entry_checks (map item_row is) (length (vehicles_in is)) (map vehicle_row (vehicles_in is))) ≡ None
 written_passes is r h =
     let es = map item_row is in
     let vs = map vehicle_row (vehicles_in is) in
@@ -205,8 +205,8 @@ written_passes is r h =
     (all_alone faced [] vs (of_lines (λ x. faced x ≡ true) line_faced (vehicles_in is) v))
     (written_apart 0 is h)
 
-pub written_long : (is : List Item) → All IsItem is → All (λ r. length r ≡ 21) (map item_row is)
+pub written_long : (is : List Item) → AllByRecursion IsItem is → AllByRecursion (λ r. length r ≡ 21) (map item_row is)
 written_long is h = of_items (λ x. length x ≡ 21) (λ i g. row_long i g.whole) is h
 
-pub written_lines : (is : List Item) → All IsItem is → All (λ r. length r ≡ 17) (map vehicle_row (vehicles_in is))
+pub written_lines : (is : List Item) → AllByRecursion IsItem is → AllByRecursion (λ r. length r ≡ 17) (map vehicle_row (vehicles_in is))
 written_lines is h = of_lines (λ x. length x ≡ 17) line_long (vehicles_in is) (all_vehicles is h)

@@ -1,6 +1,6 @@
 -- A text is the text of one list at most, or breaks at one place.
 use Rattle.std.proofs.Common.{◌≡◌, ℕ, ◌+◌, ◌<◌, ◌≤◌, Bool, true, false, ltb, List, [], ◌∷◌, ◌++◌, length, take, drop, sym, refl, ap, ◌∙◌, subst, append_assoc, append-nil, arith, length-append, take-append-drop, take-take, ltb-false, ltb-true}
-use Rattle.std.specs.List.{AllByRecursion as All}
+use Rattle.std.specs.List.{AllByRecursion}
 use Rattle.train.specs.declared.refusal.Refusal.{Refusal}
 use Rattle.fleet.specs.Books.{Item}
 use Rattle.fleet_list.specs.Forms.{Viable, Breaks, fault}
@@ -17,7 +17,7 @@ nothing : NoLine []
 nothing v w g e = omega (arith, ap length e, length-append (line_text v) w, line_long v)
 
 -- whole lines, and then what no line begins
-meet : (es ds : List Item) (u w : List ℕ) → All IsLine es → All IsLine ds → NoLine u → NoLine w → list_text es ++ u ≡ list_text ds ++ w → (es ≡ ds) × (u ≡ w)
+meet : (es ds : List Item) (u w : List ℕ) → AllByRecursion IsLine es → AllByRecursion IsLine ds → NoLine u → NoLine w → list_text es ++ u ≡ list_text ds ++ w → (es ≡ ds) × (u ≡ w)
 meet [] [] u w g h nu nw e = (refl, e)
 meet [] (y ∷ ds) u w g h nu nw e = absurd (nu y (list_text ds ++ w) h.0 (e ∙ append_assoc (line_text y) (list_text ds) w))
 meet (x ∷ es) [] u w g h nu nw e = absurd (nw x (list_text es ++ u) g.0 (sym e ∙ append_assoc (line_text x) (list_text es) u))
@@ -26,10 +26,10 @@ meet (x ∷ es) (y ∷ ds) u w g h nu nw e =
     let q = meet es ds u w g.1 h.1 nu nw p.1 in
     (ap (λ z. z ∷ es) p.0 ∙ ap (λ z. y ∷ z) q.0, q.1)
 
-pub apart : (es ds : List Item) → All IsLine es → All IsLine ds → list_text es ≡ list_text ds → es ≡ ds
+pub apart : (es ds : List Item) → AllByRecursion IsLine es → AllByRecursion IsLine ds → list_text es ≡ list_text ds → es ≡ ds
 apart es ds g h e = (meet es ds [] [] g h nothing nothing (append-nil (list_text es) ∙ e ∙ sym (append-nil (list_text ds)))).0
 
-pub broken_no_list : (t : List ℕ) (f : Refusal) → Broken t f → (es : List Item) → All IsLine es → t ≡ list_text es → ⊥
+pub broken_no_list : (t : List ℕ) (f : Refusal) → Broken t f → (es : List Item) → AllByRecursion IsLine es → t ≡ list_text es → ⊥
 broken_no_list t f b es g e =
     let p = meet b.whole es b.rest [] b.good g b.breaks.none nothing (sym b.here ∙ e ∙ sym (append-nil (list_text es))) in
     omega (arith, b.some, ap length p.1)

@@ -1,6 +1,6 @@
 -- Vehicles behind one another.
 use Rattle.std.proofs.Common.{◌≡◌, ℕ, zero, suc, ◌+◌, ◌<◌, ◌≤◌, ◌⊎◌, List, [], ◌∷◌, ◌++◌, length, take, drop, set, sym, refl, ap, ◌∙◌, subst, inl, inr, ⊎_elim, append_assoc, zero-add, arith, length-append, length-set, length-take-le}
-use Rattle.std.specs.List.{flat_map, AllByRecursion as All}
+use Rattle.std.specs.List.{flat_map, AllByRecursion}
 use Rattle.std.proofs.lemmas.List.{take_more_set, flat_map_more}
 use Rattle.train.specs.declared.refusal.Refusal.{Refusal}
 use Rattle.train.specs.declared.entries.Vehicle.{Vehicle}
@@ -43,7 +43,7 @@ pub in_car : (m : ℕ) (t : List ℕ) (k : ℕ) → Breaks GoodCar car t k → B
 in_car m t k b = byte_front (Both GoodCar (Few m)) (joint car others) (Few (suc m)) others 32 t k (into m) (back m) (in_first GoodCar car (Few m) others t k [] (omega arith, tt) b)
 
 -- a break behind whole vehicles
-past : (vs : List Car) (m : ℕ) (u : List ℕ) (k : ℕ) → All GoodCar vs → Breaks (Few m) others u k → Breaks (Few (length vs + m)) others (flat_map spaced vs ++ u) (length (flat_map spaced vs) + k)
+past : (vs : List Car) (m : ℕ) (u : List ℕ) (k : ℕ) → AllByRecursion GoodCar vs → Breaks (Few m) others u k → Breaks (Few (length vs + m)) others (flat_map spaced vs ++ u) (length (flat_map spaced vs) + k)
 past [] m u k h r = moved m (0 + m) u u k (0 + k) (sym (zero-add m)) refl (sym (zero-add k)) r
 past (v ∷ vs) m u k h r =
     let i = past vs m u k h.1 r in
@@ -54,10 +54,10 @@ past (v ∷ vs) m u k h r =
 pub record Going (t : List ℕ) (from : ℕ) (list : List Vehicle) (n at : ℕ) : Type 0 where
   pub few : n ≤ 31
   pub room : 31 ≤ length list
-  pub good : All GoodCar (cars (take n list))
+  pub good : AllByRecursion GoodCar (cars (take n list))
   pub begun : Begun t from (flat_map spaced (cars (take n list))) at
 
-all_push : (vs : List Car) (v : Car) → All GoodCar vs → GoodCar v → All GoodCar (vs ++ v ∷ [])
+all_push : (vs : List Car) (v : Car) → AllByRecursion GoodCar vs → GoodCar v → AllByRecursion GoodCar (vs ++ v ∷ [])
 all_push [] v h g = (g, tt)
 all_push (x ∷ vs) v h g = (h.0, all_push vs v h.1 g)
 
@@ -78,7 +78,7 @@ going_more t from list n at v end g l la e r =
     record {
       few = omega arith;
       room = omega (arith, length-set list n v, g.room);
-      good = subst (All GoodCar) (sym p) (all_push (cars (take n list)) (car_of v) g.good r.good);
+      good = subst (AllByRecursion GoodCar) (sym p) (all_push (cars (take n list)) (car_of v) g.good r.good);
       begun = subst (λ z. Begun t from z end) (flat_map_more spaced [] (cars (take n list)) (car_of v) ∙ sym (ap (flat_map spaced) p)) (begun_more t from (flat_map spaced (cars (take n list))) at (spaced (car_of v)) end g.begun (begun_spaced t at (car_of v) end la e r));
     }
 

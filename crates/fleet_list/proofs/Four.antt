@@ -1,6 +1,6 @@
 -- The four parts of a line, and the line.
 use Rattle.std.proofs.Common.{◌≡◌, ℕ, suc, ◌+◌, List, [], ◌∷◌, ◌++◌, map, length, drop, decimal, sym, refl, ap, ◌∙◌, subst, append_assoc, arith}
-use Rattle.std.specs.List.{flat_map, AllByRecursion as All}
+use Rattle.std.specs.List.{flat_map, AllByRecursion}
 use Rattle.train.specs.declared.entries.Vehicle.{Vehicle}
 use Rattle.train.specs.declared.facing.Facing.TheVariants.{Direct}
 use Rattle.train.specs.declared.refusal.Refusal.{Refusal}
@@ -76,11 +76,11 @@ pub length-map : {A B : Type 0} (f : A → B) (xs : List A) → length (map f xs
 length-map f [] = refl
 length-map f (x ∷ xs) = ap suc (length-map f xs)
 
-good_vehicles : (vs : List Car) → All GoodCar vs → All IsVehicle (map vehicle_of vs)
+good_vehicles : (vs : List Car) → AllByRecursion GoodCar vs → AllByRecursion IsVehicle (map vehicle_of vs)
 good_vehicles [] h = tt
 good_vehicles (v ∷ vs) h = (record { named = h.0.0; faced = h.0.1 }, good_vehicles vs h.1)
 
-good_cars : (vs : List Vehicle) → All IsVehicle vs → All GoodCar (cars vs)
+good_cars : (vs : List Vehicle) → AllByRecursion IsVehicle vs → AllByRecursion GoodCar (cars vs)
 good_cars [] h = tt
 good_cars (v ∷ vs) h = ((h.0.named, h.0.faced), good_cars vs h.1)
 
@@ -110,7 +110,7 @@ parts_of i v vs = (i.identity.bytes, (i.consist.counter, (car_of v, cars vs)))
 back_by : (i : Item) → IsLine i → (vs : List Vehicle) → vs ≡ i.consist.vehicles → (p : Parts) × GoodParts p × (line_text i ≡ parts_text p) × (item_of p ≡ i)
 back_by i g [] e = absurd (omega (arith, g.some, ap length e))
 back_by i g (v ∷ vs) e =
-    let each = subst (All IsVehicle) (sym e) g.each in
+    let each = subst (AllByRecursion IsVehicle) (sym e) g.each in
     let same : item_of (parts_of i v vs) ≡ i = ap (λ z. record { identity = i.identity; consist = record { counter = i.consist.counter; vehicles = z } }) (ap (λ z. v ∷ z) (vehicles-cars vs) ∙ e) in (
       parts_of i v vs,
       ((g.whole, g.bytes), ((omega (arith, g.counted), omega (arith, g.fits)), ((each.0.named, each.0.faced), (omega (arith, length-map car_of vs, ap length e, g.few), good_cars vs each.1)))),

@@ -1,6 +1,6 @@
 -- Hex digits, bytes and identities.
 use Rattle.std.proofs.Common.{◌≡◌, ℕ, zero, suc, ◌+◌, ◌*◌, ◌/◌, ◌%◌, ◌<◌, ◌≤◌, Bool, true, false, cond, ltb, List, [], ◌∷◌, ◌++◌, length, take, set, sym, refl, ap, ◌∙◌, subst, inl, inr, zero-add, arith, length-set, length-take-le, ltb-false, ltb-true}
-use Rattle.std.specs.List.{flat_map, AllByRecursion as All}
+use Rattle.std.specs.List.{flat_map, AllByRecursion}
 use Rattle.std.proofs.lemmas.List.{take_more_set, flat_map_more, take_all}
 use Rattle.train.specs.declared.refusal.Refusal.{Refusal}
 use Rattle.fleet_list.specs.Forms.{Breaks, Front, Both, joint, Reads, Refused}
@@ -75,7 +75,7 @@ pub in_byte : (m : ℕ) (t : List ℕ) (k : ℕ) → Breaks Byte byte_text t k �
 in_byte m t k b = same_breaks (Both Byte (Bytes m)) (joint byte_text bytes_text) (Bytes (suc m)) bytes_text t k (into m) (back m) (in_first Byte byte_text (Bytes m) bytes_text t k (zeros m) (zeros_good m) b)
 
 -- a break behind whole bytes
-past : (bs : List ℕ) (m : ℕ) (u : List ℕ) (k : ℕ) → All Byte bs → Breaks (Bytes m) bytes_text u k → Breaks (Bytes (length bs + m)) bytes_text (flat_map byte_text bs ++ u) (length (flat_map byte_text bs) + k)
+past : (bs : List ℕ) (m : ℕ) (u : List ℕ) (k : ℕ) → AllByRecursion Byte bs → Breaks (Bytes m) bytes_text u k → Breaks (Bytes (length bs + m)) bytes_text (flat_map byte_text bs ++ u) (length (flat_map byte_text bs) + k)
 past [] m u k h r = moved m (0 + m) u k (0 + k) (sym (zero-add m)) (sym (zero-add k)) r
 past (b ∷ bs) m u k h r =
     let i = past bs m u k h.1 r in
@@ -85,10 +85,10 @@ past (b ∷ bs) m u k h r =
 pub record Going (t : List ℕ) (from : ℕ) (bytes : List ℕ) (n at : ℕ) : Type 0 where
   pub few : n ≤ 16
   pub room : length bytes ≡ 16
-  pub good : All Byte (take n bytes)
+  pub good : AllByRecursion Byte (take n bytes)
   pub begun : Begun t from (flat_map byte_text (take n bytes)) at
 
-bytes_push : (bs : List ℕ) (b : ℕ) → All Byte bs → Byte b → All Byte (bs ++ b ∷ [])
+bytes_push : (bs : List ℕ) (b : ℕ) → AllByRecursion Byte bs → Byte b → AllByRecursion Byte (bs ++ b ∷ [])
 bytes_push [] b h g = (g, tt)
 bytes_push (x ∷ bs) b h g = (h.0, bytes_push bs b h.1 g)
 
@@ -98,7 +98,7 @@ going_more t from bytes n at b end g l r =
     record {
       few = omega arith;
       room = length-set bytes n b ∙ g.room;
-      good = subst (All Byte) (sym e) (bytes_push (take n bytes) b g.good r.good);
+      good = subst (AllByRecursion Byte) (sym e) (bytes_push (take n bytes) b g.good r.good);
       begun = subst (λ z. Begun t from z end) (flat_map_more byte_text [] (take n bytes) b ∙ sym (ap (flat_map byte_text) e)) (begun_more t from (flat_map byte_text (take n bytes)) at (byte_text b) end g.begun (begun_read Byte byte_text t at b end r));
     }
 
@@ -115,7 +115,7 @@ first_end (b ∷ bs) g = absurd (omega (arith, g.0))
 pub going_done : (t : List ℕ) (from : ℕ) (bytes : List ℕ) (n at end : ℕ) → Going t from bytes n at → 16 ≤ n → Begun t at (32 ∷ []) end → Reads (Bytes 16) bytes_text t from bytes end
 going_done t from bytes n at end g l b =
     let e = take_all n bytes (omega (arith, g.room)) in
-    reads_begun (Bytes 16) bytes_text t from bytes end (g.room, subst (All Byte) e g.good) (subst (λ z. Begun t from (flat_map byte_text z ++ 32 ∷ []) end) e (begun_more t from (flat_map byte_text (take n bytes)) at (32 ∷ []) end g.begun b))
+    reads_begun (Bytes 16) bytes_text t from bytes end (g.room, subst (AllByRecursion Byte) e g.good) (subst (λ z. Begun t from (flat_map byte_text z ++ 32 ∷ []) end) e (begun_more t from (flat_map byte_text (take n bytes)) at (32 ∷ []) end g.begun b))
 
 pub front_identity : (m : ℕ) → Front (Bytes m) bytes_text
 front_identity m [] [] w w' g g' e = (refl, cc)

@@ -1,6 +1,6 @@
 -- What the round trips answer.
 use Rattle.std.proofs.Common.{◌≡◌, ℕ, ◌<◌, Bool, true, false, cond, leb, List, [], ◌∷◌, ◌++◌, map, length, take, drop, Some, None, Ok, Err, sym, refl, ap, ◌∙◌, subst, inr, arith}
-use Rattle.std.specs.List.{AllByRecursion as All}
+use Rattle.std.specs.List.{AllByRecursion}
 use Rattle.std.proofs.lemmas.List.{take_at}
 use Rattle.std.proofs.lemmas.Bool.{leb-false}
 use Rattle.train.specs.declared.refusal.Part.{Part}
@@ -60,18 +60,18 @@ module _ (text book book' back back' : List ℕ) (n k : ℕ) (e : k ≡ n) (g : 
 
 -- a book, its list and back
 
-all_left : {A : Type 0} (P : A → Type 0) (xs ys : List A) → All P (xs ++ ys) → All P xs
+all_left : {A : Type 0} (P : A → Type 0) (xs ys : List A) → AllByRecursion P (xs ++ ys) → AllByRecursion P xs
 all_left P [] ys h = tt
 all_left P (x ∷ xs) ys h = (h.0, all_left P xs ys h.1)
 
-all_right : {A : Type 0} (P : A → Type 0) (xs ys : List A) → All P (xs ++ ys) → All P ys
+all_right : {A : Type 0} (P : A → Type 0) (xs ys : List A) → AllByRecursion P (xs ++ ys) → AllByRecursion P ys
 all_right P [] ys h = h
 all_right P (x ∷ xs) ys h = all_right P xs ys h.1
 
 abbrev Small : ℕ → Type 0
 Small b = b < 256
 
-lines_by : (is : List Item) → All IsItem is → All Small (flat (map item_row is)) → All IsLine is
+lines_by : (is : List Item) → AllByRecursion IsItem is → AllByRecursion Small (flat (map item_row is)) → AllByRecursion IsLine is
 lines_by [] g h = tt
 lines_by (i ∷ is) g h =
     let a = all_left Small (item_row i) (flat (map item_row is)) h in
@@ -88,12 +88,12 @@ lines_by (i ∷ is) g h =
       lines_by is g.1 (all_right Small (item_row i) (flat (map item_row is)) h),
     )
 
-lines : (is : List Item) → IsFleet is → All Small (book_of is) → All IsLine is
+lines : (is : List Item) → IsFleet is → AllByRecursion Small (book_of is) → AllByRecursion IsLine is
 lines is f h = lines_by is f.each (all_left Small (flat (map item_row is)) (two (length (vehicles_in is)) ++ flat (map vehicle_row (vehicles_in is))) h.1.1.1.1)
 
-module _ (book text text' back back' : List ℕ) (bytes : All Small book) (n : ℕ × ℕ) (k : ℕ) (e : k ≡ n.0) (b : IsBook book (fleet_of book)) (g : Listing (fleet_of book) text n text') where
-  good : All IsLine (fleet_of book)
-  good = lines (fleet_of book) b.fleet (subst (All Small) (sym b.written) bytes)
+module _ (book text text' back back' : List ℕ) (bytes : AllByRecursion Small book) (n : ℕ × ℕ) (k : ℕ) (e : k ≡ n.0) (b : IsBook book (fleet_of book)) (g : Listing (fleet_of book) text n text') where
+  good : AllByRecursion IsLine (fleet_of book)
+  good = lines (fleet_of book) b.fleet (subst (AllByRecursion Small) (sym b.written) bytes)
 
   is_list : take k text' ≡ list_text (fleet_of book)
   is_list = front (list_text (fleet_of book)) text n.0 k text' g.wrote e

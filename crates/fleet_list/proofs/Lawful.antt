@@ -1,6 +1,6 @@
 -- The checks of import: lines that meet them are a fleet, and a fleet meets them.
 use Rattle.std.proofs.Common.{◌≡◌, ℕ, ◌+◌, ◌*◌, ◌≤◌, Bool, true, false, cond, ◌||◌, leb, List, [], ◌∷◌, ◌++◌, map, length, Some, None, sym, refl, ap, ◌∙◌, subst, ap₂, arith, length-append}
-use Rattle.std.specs.List.{AllByRecursion as All}
+use Rattle.std.specs.List.{AllByRecursion}
 use Rattle.std.specs.Str.{bytes_eq}
 use Rattle.std.proofs.lemmas.Bool.{and_parts, and_from, or_parts, not-true, not_from_false, le-leb}
 use Rattle.train.specs.declared.entries.Vehicle.{Vehicle}
@@ -19,19 +19,19 @@ use Rattle.fleet_list.specs.Imports.{identity_in, vehicles_of, last_of, rising, 
 use Rattle.fleet_list.proofs.BookRows.{row_long}
 use Rattle.fleet_list.proofs.Checked.{last_push}
 
-pub all_map : {A : Type 0} (P Q : A → Type 0) → ((x : A) → P x → Q x) → (xs : List A) → All P xs → All Q xs
+pub all_map : {A : Type 0} (P Q : A → Type 0) → ((x : A) → P x → Q x) → (xs : List A) → AllByRecursion P xs → AllByRecursion Q xs
 all_map P Q f [] h = tt
 all_map P Q f (x ∷ xs) h = (f x h.0, all_map P Q f xs h.1)
 
-all_both : {A : Type 0} (P Q R : A → Type 0) → ((x : A) → P x → Q x → R x) → (xs : List A) → All P xs → All Q xs → All R xs
+all_both : {A : Type 0} (P Q R : A → Type 0) → ((x : A) → P x → Q x → R x) → (xs : List A) → AllByRecursion P xs → AllByRecursion Q xs → AllByRecursion R xs
 all_both P Q R f [] h k = tt
 all_both P Q R f (x ∷ xs) h k = (f x h.0 k.0, all_both P Q R f xs h.1 k.1)
 
-all_of : {A : Type 0} (P : A → Type 0) → ((x : A) → P x) → (xs : List A) → All P xs
+all_of : {A : Type 0} (P : A → Type 0) → ((x : A) → P x) → (xs : List A) → AllByRecursion P xs
 all_of P f [] = tt
 all_of P f (x ∷ xs) = (f x, all_of P f xs)
 
-pub all_append : {A : Type 0} (P : A → Type 0) (xs ys : List A) → All P xs → All P ys → All P (xs ++ ys)
+pub all_append : {A : Type 0} (P : A → Type 0) (xs ys : List A) → AllByRecursion P xs → AllByRecursion P ys → AllByRecursion P (xs ++ ys)
 all_append P [] ys h k = k
 all_append P (x ∷ xs) ys h k = (h.0, all_append P xs ys h.1 k)
 
@@ -43,20 +43,20 @@ Above prior i = below prior (identity_in i) ≡ true
 abbrev Real : Item → Type 0
 Real i = bytes_eq (identity_in i) zeros ≡ false
 
-rises_by : (before : List (List ℕ)) (is : List Item) → keeps rising before (map identity_in is) ≡ true → All (Above (last_of before)) is × Rising is × All Real is
+rises_by : (before : List (List ℕ)) (is : List Item) → keeps rising before (map identity_in is) ≡ true → AllByRecursion (Above (last_of before)) is × Rising is × AllByRecursion Real is
 rises_by before [] h = (tt, tt, tt)
 rises_by before (i ∷ is) h =
     let p = and_parts _ _ h in
     let q = and_parts _ _ p.0 in
     let r = rises_by (before ++ identity_in i ∷ []) is p.1 in
-    let above = subst (λ z. All (Above z) is) (last_push before (identity_in i)) r.0 in
+    let above = subst (λ z. AllByRecursion (Above z) is) (last_push before (identity_in i)) r.0 in
     ((q.1, all_map (Above (identity_in i)) (Above (last_of before)) (λ j l. below_trans (last_of before) (identity_in i) (identity_in j) q.1 l) is above), (above, r.1), (not-true _ q.0, r.2))
 
-rises_back : (before : List (List ℕ)) (is : List Item) → All (Above (last_of before)) is → Rising is → All Real is → keeps rising before (map identity_in is) ≡ true
+rises_back : (before : List (List ℕ)) (is : List Item) → AllByRecursion (Above (last_of before)) is → Rising is → AllByRecursion Real is → keeps rising before (map identity_in is) ≡ true
 rises_back before [] a r n = refl
 rises_back before (i ∷ is) a r n =
     and_from _ _ (and_from _ _ (not_from_false _ n.0) a.0)
-    (rises_back (before ++ identity_in i ∷ []) is (subst (λ z. All (Above z) is) (sym (last_push before (identity_in i))) r.0) r.1 n.1)
+    (rises_back (before ++ identity_in i ∷ []) is (subst (λ z. AllByRecursion (Above z) is) (sym (last_push before (identity_in i))) r.0) r.1 n.1)
 
 above_none : (bs : List ℕ) → length bs ≡ 16 → below [] bs ≡ true
 above_none [] e = absurd (omega arith)
@@ -82,7 +82,7 @@ among_push x (z ∷ ys) y = ap (λ b. alike x z || b) (among_push x ys y) ∙ as
     assoc true b c = refl
     assoc false b c = refl
 
-apart_by : (before vs : List Vehicle) → keeps (fresh alike) before vs ≡ true → All (Absent before) vs × Apart vs
+apart_by : (before vs : List Vehicle) → keeps (fresh alike) before vs ≡ true → AllByRecursion (Absent before) vs × Apart vs
 apart_by before [] h = (tt, tt)
 apart_by before (v ∷ vs) h =
     let p = and_parts _ _ h in
@@ -92,7 +92,7 @@ apart_by before (v ∷ vs) h =
       (all_map (λ w. Absent before w × (alike w v ≡ false)) (λ w. v.name.bytes ≡ w.name.bytes → ⊥) (λ w e q. differs w.name.bytes v.name.bytes e.1 (sym q)) vs both, r.1),
     )
 
-apart_back : (before vs : List Vehicle) → All (Absent before) vs → Apart vs → keeps (fresh alike) before vs ≡ true
+apart_back : (before vs : List Vehicle) → AllByRecursion (Absent before) vs → Apart vs → keeps (fresh alike) before vs ≡ true
 apart_back before [] a p = refl
 apart_back before (v ∷ vs) a p =
     and_from _ _ (not_from_false _ a.0)
@@ -104,11 +104,11 @@ apart_back before (v ∷ vs) a p =
 apart_is : (vs : List Vehicle) → Apart vs → names_apart vs ≡ true
 apart_is vs p = apart_back [] vs (all_of (Absent []) (λ w. refl) vs) p
 
-alone_by : (before : List (List Vehicle)) (is : List Item) → keeps (alone names_apart) before (map vehicles_of is) ≡ true → All (λ i. names_apart (vehicles_of i) ≡ true) is
+alone_by : (before : List (List Vehicle)) (is : List Item) → keeps (alone names_apart) before (map vehicles_of is) ≡ true → AllByRecursion (λ i. names_apart (vehicles_of i) ≡ true) is
 alone_by before [] h = tt
 alone_by before (i ∷ is) h = let p = and_parts _ _ h in (p.0, alone_by (before ++ vehicles_of i ∷ []) is p.1)
 
-alone_back : (before : List (List Vehicle)) (is : List Item) → All (λ i. names_apart (vehicles_of i) ≡ true) is → keeps (alone names_apart) before (map vehicles_of is) ≡ true
+alone_back : (before : List (List Vehicle)) (is : List Item) → AllByRecursion (λ i. names_apart (vehicles_of i) ≡ true) is → keeps (alone names_apart) before (map vehicles_of is) ≡ true
 alone_back before [] h = refl
 alone_back before (i ∷ is) h = and_from _ _ h.0 (alone_back (before ++ vehicles_of i ∷ []) is h.1)
 
@@ -121,7 +121,7 @@ item i l h = record {
   consist = record { counted = l.counted; fits = l.fits; some = l.some; few = l.few; each = l.each; apart = (apart_by [] (vehicles_of i) h.1).1 };
 }
 
-pub lawful : (is : List Item) (room : ℕ) → All IsLine is → length is ≤ 200 → length (vehicles_in is) ≤ 2000 → refusal Text (line_checks is room) ≡ None → IsFleet is
+pub lawful : (is : List Item) (room : ℕ) → AllByRecursion IsLine is → length is ≤ 200 → length (vehicles_in is) ≤ 2000 → refusal Text (line_checks is room) ≡ None → IsFleet is
 lawful is room l few small h =
     let a = first_met Text (each rising IdentityOrder (map identity_in is)) _ h in
     let b = first_met Text (each (alone names_apart) Repeated (map vehicles_of is)) _ a.1 in
@@ -154,21 +154,21 @@ passes is room f l = only_room is room f ∙ none_first Text (room_for (length (
 
 -- the length of a book
 
-rows_long : (is : List Item) → All IsLine is → length (flat (map item_row is)) ≡ 21 * length is
+rows_long : (is : List Item) → AllByRecursion IsLine is → length (flat (map item_row is)) ≡ 21 * length is
 rows_long [] l = refl
 rows_long (i ∷ is) l =
     let b = four i.consist.counter ++ (length i.consist.vehicles ∷ []) in
     omega (arith, length-append (item_row i) (flat (map item_row is)), length-append i.identity.bytes b, l.0.whole, rows_long is l.1)
 
-vehicles_long : (vs : List Vehicle) → All IsVehicle vs → length (flat (map vehicle_row vs)) ≡ 17 * length vs
+vehicles_long : (vs : List Vehicle) → AllByRecursion IsVehicle vs → length (flat (map vehicle_row vs)) ≡ 17 * length vs
 vehicles_long [] l = refl
 vehicles_long (v ∷ vs) l = omega (arith, length-append (vehicle_row v) (flat (map vehicle_row vs)), row_long v, name_long v.name.bytes l.0.named, vehicles_long vs l.1)
 
-all_vehicles : (is : List Item) → All IsLine is → All IsVehicle (vehicles_in is)
+all_vehicles : (is : List Item) → AllByRecursion IsLine is → AllByRecursion IsVehicle (vehicles_in is)
 all_vehicles [] l = tt
 all_vehicles (i ∷ is) l = all_append IsVehicle (vehicles_of i) (vehicles_in is) l.0.each (all_vehicles is l.1)
 
-pub book_long : (is : List Item) → All IsLine is → length (book_of is) ≡ 6 + 21 * length is + 17 * length (vehicles_in is)
+pub book_long : (is : List Item) → AllByRecursion IsLine is → length (book_of is) ≡ 6 + 21 * length is + 17 * length (vehicles_in is)
 book_long is l =
     let a = flat (map item_row is) in
     let b = flat (map vehicle_row (vehicles_in is)) in

@@ -5,12 +5,12 @@ use Rattle.fleet_list.specs.declared.name_reader.NameState.TheVariants.{Before, 
 use Rattle.fleet_list.specs.Steps.{Move, refuse, enter, escape, keep, close, move, Room}
 use Rattle.fleet_list.proofs.Turns.{ok, bad, run, went, is_went}
 use Rattle.fleet_list.specs.Texts.{escaped, quoted as print}
-use Rattle.std.specs.List.{flat_map, AllByRecursion as All}
+use Rattle.std.specs.List.{flat_map, AllByRecursion}
 use Rattle.fleet_list.specs.Forms.{Breaks, Front}
 
 -- the text of a name: 1 to 15 printable bytes
 abbrev pub Plain : List ℕ → Type 0
-Plain n = All (λ b. (32 ≤ b) × (b ≤ 126)) n
+Plain n = AllByRecursion (λ b. (32 ≤ b) × (b ≤ 126)) n
 
 pub record Good (n : List ℕ) : Type 0 where
   pub some : 0 < length n

@@ -1,6 +1,6 @@
 -- What opening says of the bytes of a book, and how long the list of its fleet can be.
 use Rattle.std.proofs.Common.{◌≡◌, ℕ, ◌+◌, ◌*◌, ◌/◌, ◌%◌, ◌^◌, ◌<◌, ◌≤◌, Bool, true, false, cond, eqb, leb, List, [], ◌∷◌, ◌++◌, length, None, decimal, ap, arith, length-append}
-use Rattle.std.specs.List.{flat_map, AllByRecursion as All}
+use Rattle.std.specs.List.{flat_map, AllByRecursion}
 use Rattle.std.proofs.lemmas.Fmt.{decimal_by_steps}
 use Rattle.std.proofs.lemmas.Bool.{and_parts, leb-true, eqb-true}
 use Rattle.train.specs.declared.entries.Vehicle.{Vehicle}
@@ -60,7 +60,7 @@ vehicle_few v g =
     let n = g.named in
     omega (arith, vehicle_long v, quoted_long (text_of v.name.bytes), escaped_few (text_of v.name.bytes), ap length (text_is v.name.bytes n), n.few)
 
-vehicles_few : (vs : List Vehicle) → All IsVehicle vs → length (flat_map vehicle_text vs) ≤ 34 * length vs
+vehicles_few : (vs : List Vehicle) → AllByRecursion IsVehicle vs → length (flat_map vehicle_text vs) ≤ 34 * length vs
 vehicles_few [] h = omega arith
 vehicles_few (v ∷ vs) h = omega (arith, length-append (vehicle_text v) (flat_map vehicle_text vs), vehicle_few v h.0, vehicles_few vs h.1)
 
@@ -82,7 +82,7 @@ line_few i g =
       c.few,
     )
 
-list_few : (is : List Item) → All IsItem is → length (list_text is) ≤ 4294970000 * length is
+list_few : (is : List Item) → AllByRecursion IsItem is → length (list_text is) ≤ 4294970000 * length is
 list_few [] h = omega arith
 list_few (i ∷ is) h = omega (arith, length-append (line_text i) (list_text is), line_few i h.0, list_few is h.1)
 

@@ -2,7 +2,7 @@
 use Rattle.std.proofs.Common.{◌≡◌, ℕ, ◌+◌, ◌<◌, ◌≤◌, min, List, [], ◌∷◌, ◌++◌, length, take, drop, set, decimal, sym, refl, ap, ◌∙◌, subst, append-nil, arith, length-append, length-drop, length-take-le, drop-drop}
 use lib.Seq.{take-append-le}
 use borrow.Rule.Slice.PartMut.{put_mid, post_of}
-use Rattle.std.specs.List.{flat_map, AllByRecursion as All}
+use Rattle.std.specs.List.{flat_map, AllByRecursion}
 use Rattle.std.proofs.lemmas.List.{take_more_set, flat_map_more, drop_all, take_at, drop_at}
 use Rattle.train.specs.declared.entries.Vehicle.{Vehicle}
 use Rattle.train.specs.declared.refusal.Refusal.{Refusal}
@@ -19,7 +19,7 @@ use Rattle.fleet_list.proofs.Seq.{Begun, begun_more, at_place}
 -- lines read so far
 pub record Passed (t : List ℕ) (heads : List Head) (vehicles : List Vehicle) (lines total at : ℕ) : Type 0 where
   pub whole : List Item
-  pub good : All IsLine whole
+  pub good : AllByRecursion IsLine whole
   pub count : length whole ≡ lines
   pub sum : length (vehicles_in whole) ≡ total
   pub short : lines ≤ at
@@ -39,7 +39,7 @@ passed_none t heads vehicles = record {
   held = λ l m. record { items = refl; sum = refl };
 }
 
-pub all_push : {A : Type 0} (P : A → Type 0) (xs : List A) (x : A) → All P xs → P x → All P (xs ++ x ∷ [])
+pub all_push : {A : Type 0} (P : A → Type 0) (xs : List A) (x : A) → AllByRecursion P xs → P x → AllByRecursion P (xs ++ x ∷ [])
 all_push P [] x h g = (g, tt)
 all_push P (y ∷ xs) x h g = (h.0, all_push P xs x h.1 g)
 

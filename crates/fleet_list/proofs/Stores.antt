@@ -1,6 +1,6 @@
 -- The exits of `store` and of import, by the checks.
 use Rattle.std.proofs.Common.{◌≡◌, ℕ, ◌+◌, ◌*◌, ◌<◌, ◌≤◌, leb, List, [], ◌∷◌, map, length, Some, None, sym, refl, ap, ◌∙◌, arith}
-use Rattle.std.specs.List.{AllByRecursion as All}
+use Rattle.std.specs.List.{AllByRecursion}
 use Rattle.std.proofs.lemmas.List.{take_all}
 use Rattle.std.proofs.lemmas.Bool.{lt-leb, le-leb}
 use Rattle.train.specs.declared.entries.Vehicle.{Vehicle}
@@ -25,7 +25,7 @@ ids [] vs = refl
 ids (h ∷ hs) vs = ap (λ z. head_identity h ∷ z) (ids hs _)
 
 -- the length of the book from the tables
-pub need_is : (hs : List Head) (vs : List Vehicle) → counts hs ≡ length vs → All IsLine (gathered hs vs) → length (book_of (gathered hs vs)) ≡ 6 + 21 * length hs + 17 * length vs
+pub need_is : (hs : List Head) (vs : List Vehicle) → counts hs ≡ length vs → AllByRecursion IsLine (gathered hs vs) → length (book_of (gathered hs vs)) ≡ 6 + 21 * length hs + 17 * length vs
 need_is hs vs e l =
     let v : vehicles_in (gathered hs vs) ≡ vs = gathered-vehicles hs vs (omega arith) ∙ take_all (counts hs) vs (omega arith) in
     book_long (gathered hs vs) l ∙ omega (arith, length-gathered hs vs, ap length v)

@@ -1,6 +1,6 @@
 -- Importing a list: the checks over its lines, and what the call answers.
 use Rattle.std.specs.Prelude.{◌≡◌, ℕ, Bool, ◌⊎◌, List, [], ◌∷◌, map, length, Some, None, Ok, Err, Result, nat_le}
-use Rattle.std.specs.List.{AllByRecursion as All}
+use Rattle.std.specs.List.{AllByRecursion}
 use Rattle.std.specs.Str.{bytes_eq}
 use Rattle.train.specs.Refusals.{Check, Rule, must, each, alone, keeps, fresh, by, refusal, refusal_of}
 use Rattle.train.specs.declared.entries.Vehicle.{Vehicle}
@@ -56,7 +56,7 @@ list_checks is room =
 -- the text is the list of a fleet, whose book is written at the front of the buffer
 pub record Carried (t before : List ℕ) (n : ℕ) (after : List ℕ) : Type 0 where
   pub items : List Item
-  pub lines : All IsLine items
+  pub lines : AllByRecursion IsLine items
   pub fleet : IsFleet items
   pub is : t ≡ list_text items
   pub wrote : Written (book_of items) before n after
@@ -64,7 +64,7 @@ pub record Carried (t before : List ℕ) (n : ℕ) (after : List ℕ) : Type 0 w
 -- the text is a list of lines that do not meet the checks
 pub record Unmet (t : List ℕ) (room : ℕ) (f : Refusal) : Type 0 where
   pub items : List Item
-  pub lines : All IsLine items
+  pub lines : AllByRecursion IsLine items
   pub is : t ≡ list_text items
   pub refused : refusal Text (list_checks items room) ≡ Some f
 
@@ -80,4 +80,4 @@ Stored is before after (Err f) = (refusal Text (line_checks is (length before)) 
 -- Every text breaks at one place, or is the list of some lines; what it is decides the answer.
 pub record Decided (t before : List ℕ) (r : Result ℕ Refusal) : Type 0 where
   pub breaks : (f : Refusal) → Broken t f → refusal_of r ≡ Some f
-  pub lists : (is : List Item) → All IsLine is → t ≡ list_text is → refusal_of r ≡ refusal Text (list_checks is (length before))
+  pub lists : (is : List Item) → AllByRecursion IsLine is → t ≡ list_text is → refusal_of r ≡ refusal Text (list_checks is (length before))

@@ -1,6 +1,6 @@
 -- Lists and books are one to one, and a text breaks at one place; two known texts.
 use Rattle.std.specs.Prelude.{◌≡◌, ℕ, List, [], ◌∷◌, ◌≢◌}
-use Rattle.std.specs.List.{AllByRecursion as All}
+use Rattle.std.specs.List.{AllByRecursion}
 use Rattle.train.specs.declared.refusal.Refusal.{Refusal}
 use Rattle.fleet.specs.Books.{Item, IsFleet, book_of}
 use Rattle.fleet_list.specs.Forms.{fault}
@@ -9,10 +9,10 @@ use Rattle.fleet_list.specs.Readings.{Broken}
 use Rattle.fleet_list.specs.Texts.{quoted}
 
 pub record OneToOne : Type 0 where
-  pub list : (is js : List Item) → All IsLine is → All IsLine js → list_text is ≡ list_text js → is ≡ js
+  pub list : (is js : List Item) → AllByRecursion IsLine is → AllByRecursion IsLine js → list_text is ≡ list_text js → is ≡ js
   pub book : (is js : List Item) → IsFleet is → IsFleet js → book_of is ≡ book_of js → is ≡ js
   pub place : (t : List ℕ) (f g : Refusal) → Broken t f → Broken t g → f ≡ g
-  pub apart : (t : List ℕ) (f : Refusal) → Broken t f → (is : List Item) → All IsLine is → t ≢ list_text is
+  pub apart : (t : List ℕ) (f : Refusal) → Broken t f → (is : List Item) → AllByRecursion IsLine is → t ≢ list_text is
 
 -- thirty zeros before a text
 abbrev pub zeros30 : List ℕ → List ℕ

@@ -1,6 +1,6 @@
 -- A fleet list: a line for each consist.
 use Rattle.std.specs.Prelude.{◌≡◌, ℕ, ◌<◌, ◌≤◌, List, [], ◌∷◌, ◌++◌, length, decimal}
-use Rattle.std.specs.List.{flat_map, AllByRecursion as All}
+use Rattle.std.specs.List.{flat_map, AllByRecursion}
 use Rattle.fleet.specs.Fleets.{IsVehicle}
 use Rattle.fleet.specs.Books.{Item}
 use Rattle.fleet_list.specs.Texts.{byte_text, vehicle_text}
@@ -12,12 +12,12 @@ line_text i = flat_map byte_text i.identity.bytes ++ 32 ∷ (decimal i.consist.c
 -- what a line can say
 pub record IsLine (i : Item) : Type 0 where
   pub whole : length i.identity.bytes ≡ 16
-  pub bytes : All (λ b. b < 256) i.identity.bytes
+  pub bytes : AllByRecursion (λ b. b < 256) i.identity.bytes
   pub counted : 1 ≤ i.consist.counter
   pub fits : i.consist.counter ≤ 4294967295
   pub some : 1 ≤ length i.consist.vehicles
   pub few : length i.consist.vehicles ≤ 32
-  pub each : All IsVehicle i.consist.vehicles
+  pub each : AllByRecursion IsVehicle i.consist.vehicles
 
 abbrev pub list_text : List Item → List ℕ
 list_text is = flat_map line_text is

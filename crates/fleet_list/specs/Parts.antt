@@ -1,6 +1,6 @@
 -- The parts of a line, each with what ends it.
 use Rattle.std.specs.Prelude.{◌≡◌, ℕ, ◌<◌, ◌≤◌, true, ◌⊎◌, List, [], ◌∷◌, ◌++◌, map, length, Some, None, Option}
-use Rattle.std.specs.List.{flat_map, AllByRecursion as All}
+use Rattle.std.specs.List.{flat_map, AllByRecursion}
 use Rattle.train.specs.Facings.{known}
 use Rattle.train.specs.Names.{IsName, text_of}
 use Rattle.train.specs.declared.entries.Vehicle.{Vehicle}
@@ -30,7 +30,7 @@ Byte b = b < 256
 
 -- the hex digits of m bytes, and a space
 abbrev pub Bytes : ℕ → List ℕ → Type 0
-Bytes m bs = (length bs ≡ m) × All Byte bs
+Bytes m bs = (length bs ≡ m) × AllByRecursion Byte bs
 
 abbrev pub bytes_text : List ℕ → List ℕ
 bytes_text bs = flat_map byte_text bs ++ 32 ∷ []
@@ -64,7 +64,7 @@ spaced v = 32 ∷ car v
 
 -- at most m vehicles behind the first, and the end of the line
 abbrev pub Few : ℕ → List Car → Type 0
-Few m vs = (length vs ≤ m) × All GoodCar vs
+Few m vs = (length vs ≤ m) × AllByRecursion GoodCar vs
 
 abbrev pub others : List Car → List ℕ
 others vs = flat_map spaced vs ++ 10 ∷ []

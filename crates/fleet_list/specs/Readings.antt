@@ -1,6 +1,6 @@
 -- What the reader of a list answers.
 use Rattle.std.specs.Prelude.{◌≡◌, ℕ, ◌+◌, ◌<◌, ◌≤◌, List, ◌++◌, length, take, Ok, Err, Result}
-use Rattle.std.specs.List.{AllByRecursion as All}
+use Rattle.std.specs.List.{AllByRecursion}
 use Rattle.train.specs.declared.entries.Vehicle.{Vehicle}
 use Rattle.train.specs.declared.refusal.Refusal.{Refusal}
 use Rattle.fleet_list.specs.declared.tables.Head.{Head}
@@ -13,7 +13,7 @@ use Rattle.fleet_list.specs.Tables.{gathered, counts}
 -- first byte with which no line goes on, or one past the end of the text; lines and bytes count from 1.
 pub record Broken (t : List ℕ) (f : Refusal) : Type 0 where
   pub whole : List Item
-  pub good : All IsLine whole
+  pub good : AllByRecursion IsLine whole
   pub rest : List ℕ
   pub k : ℕ
   pub here : t ≡ list_text whole ++ rest
@@ -29,7 +29,7 @@ pub record Held (is : List Item) (heads : List Head) (vehicles : List Vehicle) (
 -- the text is these lines, and the tables hold them where there is room
 pub record Listed (t : List ℕ) (heads : List Head) (vehicles : List Vehicle) (lines total : ℕ) : Type 0 where
   pub whole : List Item
-  pub good : All IsLine whole
+  pub good : AllByRecursion IsLine whole
   pub is : t ≡ list_text whole
   pub count : length whole ≡ lines
   pub sum : length (vehicles_in whole) ≡ total

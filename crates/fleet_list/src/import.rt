@@ -1,6 +1,6 @@
 // Importing a list: its fleet, written as a book.
 ghost use Rattle.std.specs.Prelude.{◌≡◌, ◌≤◌, length};
-ghost use Rattle.std.specs.List.{AllByRecursion as All};
+ghost use Rattle.std.specs.List.{AllByRecursion};
 ghost use Rattle.fleet_list.specs.Imports.{Imported, Decided, Stored};
 ghost use Rattle.fleet_list.specs.Lists.{IsLine};
 ghost use Rattle.fleet_list.specs.Tables.{gathered, counts};
@@ -16,7 +16,7 @@ use train::refusal::{Reason, Refusal};
 // Makes the checks over the entries, and writes the book.
 fn store(heads: &[Head], vehicles: &[Vehicle], out: &mut [u8]) -> Result<usize, Refusal>
     requires sums { counts heads.now ≡ length vehicles.now }
-    requires lines { All IsLine (gathered heads.now vehicles.now) }
+    requires lines { AllByRecursion IsLine (gathered heads.now vehicles.now) }
     requires few { length heads.now ≤ 200 }
     requires small { length vehicles.now ≤ 2000 }
     ensures { Stored (gathered heads.now vehicles.now) out.old out.new result }

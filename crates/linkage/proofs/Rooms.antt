@@ -1,6 +1,6 @@
 -- What a call with no room says of one with room enough.
 use Rattle.std.proofs.Common.{◌≡◌, ℕ, ◌+◌, ◌<◌, Bool, true, false, cond, eqb, leb, ◌⊎◌, List, [], ◌∷◌, ◌++◌, map, length, drop, IfOk, Some, None, Ok, Err, Option, Result, sym, refl, ap, ◌∙◌, inl, inr, arith, lit<}
-use Rattle.std.specs.List.{AllByRecursion as All}
+use Rattle.std.specs.List.{AllByRecursion}
 use Rattle.std.proofs.lemmas.Bool.{le-leb, ne_eqb}
 use Rattle.train.specs.declared.refusal.Part.{Part}
 use Rattle.train.specs.declared.refusal.Part.TheVariants.{Text, Book}
@@ -50,7 +50,7 @@ step part c rest found n (Err x) false t h e f =
     rw t (ap (λ z. freed (Err z)) q ∙ kept (record { part = part; reason = c.reason; place = c.place }) h)
 
 -- checks that are not of the room, and then the room, where there is none
-pub freed_is : (part : Part) (cs : List Check) (n : ℕ) (r : Result ℕ Refusal) → All Roomless cs → refusal_of r ≡ refusal part (cs ++ room_for n 0 ∷ []) → IfOk r (λ k. k ≡ n)
+pub freed_is : (part : Part) (cs : List Check) (n : ℕ) (r : Result ℕ Refusal) → AllByRecursion Roomless cs → refusal_of r ≡ refusal part (cs ++ room_for n 0 ∷ []) → IfOk r (λ k. k ≡ n)
     → freed r ≡ unless (refusal part cs) n
 freed_is part [] n r a e m = last part n r (leb n 0) e m
 freed_is part (c ∷ cs) n r a e m = step part c (refusal part (cs ++ room_for n 0 ∷ [])) (refusal part cs) n r c.ok refl a.0 e (λ k. freed_is part cs n r a.1 k m)
@@ -69,11 +69,11 @@ unfit : (t after : List ℕ) (r : Result ℕ Refusal) (n : ℕ) → Imported t [
 unfit t after (Ok k) n h = absurd (omega (arith, h.wrote.long, h.wrote.fits))
 unfit t after (Err f) n h = tt
 
-pub list_either : (t after : List ℕ) (r : Result ℕ Refusal) → Imported t [] after r → ((f : Refusal) × Broken t f) ⊎ ((is : List Item) × All IsLine is × (t ≡ list_text is))
+pub list_either : (t after : List ℕ) (r : Result ℕ Refusal) → Imported t [] after r → ((f : Refusal) × Broken t f) ⊎ ((is : List Item) × AllByRecursion IsLine is × (t ≡ list_text is))
 list_either t after (Ok n) h = inr (h.items, h.lines, h.is)
 list_either t after (Err f) h = by h.1
   where
-    by : Broken t f ⊎ Unmet t 0 f → ((g : Refusal) × Broken t g) ⊎ ((is : List Item) × All IsLine is × (t ≡ list_text is))
+    by : Broken t f ⊎ Unmet t 0 f → ((g : Refusal) × Broken t g) ⊎ ((is : List Item) × AllByRecursion IsLine is × (t ≡ list_text is))
     by (inl b) = inl (f, b)
     by (inr u) = inr (u.items, u.lines, u.is)
 
@@ -84,17 +84,17 @@ list_breaks t (Err g) d f b =
     let q : g ≡ f = cc in
     ap (λ z. freed (Err z)) q ∙ kept f (rw b.is (lit< tt))
 
-pub list_lists : (t after : List ℕ) (r : Result ℕ Refusal) → Imported t [] after r → Decided t [] r → (is : List Item) → All IsLine is → t ≡ list_text is → freed r ≡ lines_checked is
+pub list_lists : (t after : List ℕ) (r : Result ℕ Refusal) → Imported t [] after r → Decided t [] r → (is : List Item) → AllByRecursion IsLine is → t ≡ list_text is → freed r ≡ lines_checked is
 list_lists t after r h d is l e =
     freed_is Text (listed is) (length (book_of is)) r (lit< tt, (lit< tt, (lit< tt, (lit< tt, tt)))) (d.lists is l e) (unfit t after r (length (book_of is)) h)
     ∙ ap (λ o. unless o (length (book_of is))) (sym (enough Text (listed is) (length (book_of is))))
 
 -- the checks of a book are none of the room
-aparts : (from : ℕ) (consists vehicles : List (List ℕ)) → All Roomless (apart_checks from consists vehicles)
+aparts : (from : ℕ) (consists vehicles : List (List ℕ)) → AllByRecursion Roomless (apart_checks from consists vehicles)
 aparts from [] vehicles = tt
 aparts from (row ∷ rest) vehicles = (lit< tt, aparts (from + size_of row) rest (drop (size_of row) vehicles))
 
-opened : (book : List ℕ) → All Roomless (book_checks book)
+opened : (book : List ℕ) → AllByRecursion Roomless (book_checks book)
 opened book =
     (lit< tt, (lit< tt, (lit< tt, (lit< tt, (lit< tt, (lit< tt, (lit< tt, (lit< tt, (lit< tt, aparts 0 (consist_rows book) (vehicle_rows book))))))))))
 

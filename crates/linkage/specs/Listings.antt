@@ -1,6 +1,6 @@
 -- The calls on fleet lists and books.
 use Rattle.std.specs.Prelude.{◌≡◌, ℕ, ◌⊎◌, List, length, Err, Result}
-use Rattle.std.specs.List.{AllByRecursion as All}
+use Rattle.std.specs.List.{AllByRecursion}
 use Rattle.train.specs.Refusals.{refusal}
 use Rattle.train.specs.declared.refusal.Part.TheVariants.{Text, Book}
 use Rattle.train.specs.declared.refusal.Refusal.{Refusal}
@@ -30,9 +30,9 @@ lines_checked is = unless (refusal Text (list_checks is (length (book_of is)))) 
 -- Every text breaks, or is a list; what it is decides the result.
 pub record ListChecked (text : List ℕ) (status : ℕ) (a : Answer) : Type 0 where
   pub result : Result ℕ Refusal
-  pub either : ((f : Refusal) × Broken text f) ⊎ ((is : List Item) × All IsLine is × (text ≡ list_text is))
+  pub either : ((f : Refusal) × Broken text f) ⊎ ((is : List Item) × AllByRecursion IsLine is × (text ≡ list_text is))
   pub breaks : (f : Refusal) → Broken text f → result ≡ Err f
-  pub lists : (is : List Item) → All IsLine is → text ≡ list_text is → result ≡ lines_checked is
+  pub lists : (is : List Item) → AllByRecursion IsLine is → text ≡ list_text is → result ≡ lines_checked is
   pub told : Tells (unlined result) status a
 
 -- exporting a book where there is room for its list: the list's length, or the refusal

@@ -1,6 +1,6 @@
 -- The rule for names: what the loops find, and the rule in its own words.
 use Rattle.std.proofs.Common.{◌≡◌, ℕ, zero, suc, ◌+◌, ◌-◌, ◌<◌, ◌≤◌, Bool, true, false, cond, ◌&&◌, eqb, leb, ◌⊎◌, List, [], ◌∷◌, ◌++◌, length, get_or, take, drop, replicate, Decides, sym, refl, ap, ◌∙◌, ap₂, inl, inr, arith}
-use Rattle.std.specs.List.{AllByRecursion as All}
+use Rattle.std.specs.List.{AllByRecursion}
 use Rattle.std.specs.Str.{bytes_eq}
 use Rattle.std.proofs.lemmas.List.{take_more, drop_more, drop_all, take_all, take_rest, append-nil, append_assoc, drop-replicate, length-replicate}
 use Rattle.std.proofs.lemmas.Bool.{and_parts, and_from, and_left, and_right, eq-eqb, ne_eqb, leb-true, le-leb}
@@ -79,10 +79,10 @@ module _ (bs : List ℕ) (n : ℕ) (len : n ≡ length (text_of bs)) where
 printable_decides : (b : ℕ) → Decides (printable b) ((32 ≤ b) × (b ≤ 126))
 printable_decides b = Decides-and (leb 32 b) (leb b 126) (leb-true 32 b, le-leb 32 b) (leb-true b 126, le-leb b 126)
 
-pub every_decides : {A : Type 0} (good : A → Bool) (P : A → Type 0) → ((x : A) → Decides (good x) (P x)) → (xs : List A) → Decides (every good xs) (All P xs)
+pub every_decides : {A : Type 0} (good : A → Bool) (P : A → Type 0) → ((x : A) → Decides (good x) (P x)) → (xs : List A) → Decides (every good xs) (AllByRecursion P xs)
 every_decides good P h = Decides-by_and good P (every good) h refl (λ _ _. refl)
 
-text_padded : (text : List ℕ) (k : ℕ) → All (λ b. (32 ≤ b) × (b ≤ 126)) text → text_of (text ++ replicate k 0) ≡ text
+text_padded : (text : List ℕ) (k : ℕ) → AllByRecursion (λ b. (32 ≤ b) × (b ≤ 126)) text → text_of (text ++ replicate k 0) ≡ text
 text_padded [] zero p = refl
 text_padded [] (suc k) p = refl
 text_padded (b ∷ text) k p =

@@ -1,6 +1,6 @@
 -- The rule for names.
 use Rattle.std.specs.Prelude.{◌≡◌, ℕ, ◌-◌, ◌≤◌, Bool, true, cond, ◌&&◌, List, [], ◌∷◌, ◌++◌, length, replicate, ◌==◌, nat_le}
-use Rattle.std.specs.List.{AllByRecursion as All}
+use Rattle.std.specs.List.{AllByRecursion}
 use Rattle.std.specs.Str.{bytes_eq}
 
 -- from 20 to 7E hex
@@ -32,5 +32,5 @@ pub record IsName (bs : List ℕ) : Type 0 where
   pub text : List ℕ
   pub some : 1 ≤ length text
   pub few : length text ≤ 15
-  pub printed : All (λ b. (32 ≤ b) × (b ≤ 126)) text
+  pub printed : AllByRecursion (λ b. (32 ≤ b) × (b ≤ 126)) text
   pub whole : bs ≡ padded text
