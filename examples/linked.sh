@@ -5,10 +5,10 @@
 set -eu
 cd "$(dirname "$0")/.."
 list=${1:-examples/lists/two_operators.txt}
-rt staticlib linkage > /dev/null
+tools/build.sh lib linkage
 work=$(mktemp -d)
 trap 'rm -rf "$work"' EXIT
-cc -O2 -Wall -Wextra -I include -o "$work/c" examples/c/coach_order.c target/staticlib/liblinkage.a
-rustc -O --edition 2024 -o "$work/rust" -L target/staticlib -l static=linkage examples/rust/coach_order.rs
+cc -O2 -Wall -Wextra -I include -o "$work/c" examples/c/coach_order.c crates/linkage/out/liblinkage.a
+rustc -O --edition 2024 -o "$work/rust" -L crates/linkage/out -l static=linkage examples/rust/coach_order.rs
 echo "C:" && "$work/c" "$list"
 echo "Rust:" && "$work/rust" "$list"

@@ -3,5 +3,5 @@
 # usage: examples/run.sh [LIST]
 set -eu
 cd "$(dirname "$0")/.."
-rt check printer > /dev/null
-exec target/bin/printer < "${1:-examples/lists/two_operators.txt}"
+tools/build.sh run printer
+exec crates/printer/out/printer < "${1:-examples/lists/two_operators.txt}"

@@ -1,6 +1,6 @@
 /* The proved train formation core, for C.
  *
- * Link with liblinkage.a (rt staticlib linkage writes target/staticlib/liblinkage.a).
+ * Link with liblinkage.a (tools/build.sh lib linkage writes crates/linkage/out/liblinkage.a).
  *
  * Every call answers a status: 0 if it was carried out, else the number of the refusal, 1 to 24, as
  * docs/RULES.md lists them. The answer is written in either case, every field of it. A refused call

@@ -7,9 +7,9 @@ set -eu
 cd "$(dirname "$0")/.."
 cases=${1:-200000}
 seed=${2:-1}
-rt staticlib linkage > /dev/null
-rt check console > /dev/null
+tools/build.sh lib linkage
+tools/build.sh run console
 work=$(mktemp -d)
 trap 'rm -rf "$work"' EXIT
-rustc -O --edition 2024 -o "$work/compare" -L target/staticlib -l static=linkage reference/compare.rs
-"$work/compare" "$cases" "$seed" target/bin/console
+rustc -O --edition 2024 -o "$work/compare" -L crates/linkage/out -l static=linkage reference/compare.rs
+"$work/compare" "$cases" "$seed" crates/console/out/console

@@ -209,7 +209,7 @@ fn answers_of(console: &str, script: &str) -> String {
         .stdin(Stdio::piped())
         .stdout(Stdio::piped())
         .spawn()
-        .expect("the console runs: build it first, by 'rt check console'");
+        .expect("the console runs: build it first, by 'tools/build.sh run console'");
     let mut input = child.stdin.take().unwrap();
     let text = script.to_string();
     let writer = std::thread::spawn(move || input.write_all(text.as_bytes()));

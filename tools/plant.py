@@ -48,7 +48,7 @@ def main():
                 continue
             with open(path, "w") as f:
                 f.write(text.replace(old, new))
-            run = subprocess.run(["rt", "dev", crate], cwd=copy, capture_output=True, text=True)
+            run = subprocess.run(["rt", "check", crate], cwd=copy, capture_output=True, text=True)
             out = run.stdout + run.stderr
             proved = "logic=proved" in out.splitlines()[-1] if out.strip() else False
             first = next((l for l in out.splitlines() if ": error" in l or ": no proof" in l), "")

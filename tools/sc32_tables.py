@@ -46,8 +46,7 @@ def main():
     (CRATE / "proofs" / "Values.antt").write_text(
         "-- The entries of the tables of src/tables.rt. Written by tools/sc32_tables.py.\n"
         "-- Assumes nothing.\n"
-        "use mathlib.Core.List.{List, [], _∷_}\n"
-        "use Prim.Native.Nat.{ℕ}\n" + "".join(map(literals, STEPS))
+        "use Rattle.std.proofs.Common.{ℕ, List, [], ◌∷◌}\n" + "".join(map(literals, STEPS))
     )
 
 

@@ -1,5 +1,5 @@
 #!/usr/bin/env bash
-# Times fleet lists side by side: crates/fleet_list as `rt check` builds it, and the twin in Rust with -O.
+# Times fleet lists side by side: crates/fleet_list as `rt run` builds it, and the twin in Rust with -O.
 # Both import and export full lists, lists a quarter of the size, and one whose lines are as long as may be,
 # 200 times each; the programs run in turn, and each time below is the best of the runs, for one call.
 # usage: benchmarks/fleet_list/run.sh [RUNS]
@@ -36,7 +36,7 @@ done
 list alike 62 32 > "$work/alike-long"
 for _ in $(seq "$runs"); do
     for input in mixed-full mixed-quarter alike-full alike-quarter alike-long; do
-        target/bin/list_speed < "$work/$input" > "$work/out" 2> "$work/took"
+        "$program" < "$work/$input" > "$work/out" 2> "$work/took"
         echo "rattle $input" $(cat "$work/out" "$work/took")
         "$work/twin" < "$work/$input" > "$work/out" 2> "$work/took"
         echo "rust $input" $(cat "$work/out" "$work/took")

@@ -1,5 +1,5 @@
 #!/usr/bin/env bash
-# Times opening a book, asking it for each vehicle, and composing, side by side: the proved core as `rt check`
+# Times opening a book, asking it for each vehicle, and composing, side by side: the proved core as `rt run`
 # builds it, and the second implementation in Rust with -O. The programs run in turn; each time is the best of the runs.
 # usage: benchmarks/plan/run.sh [RUNS]
 . "$(dirname "$0")/../begin.sh"
@@ -22,9 +22,9 @@ list 7 9 > "$work/train"
 list 3 10 > "$work/half"
 for _ in $(seq "$runs"); do
     for input in full quarter train half; do
-        for program in target/bin/plan_speed "$work/twin"; do
-            "$program" < "$work/$input" > "$work/out" 2> "$work/took"
-            echo "${program##*/} $input" $(cat "$work/out" "$work/took")
+        for each in "$program" "$work/twin"; do
+            "$each" < "$work/$input" > "$work/out" 2> "$work/took"
+            echo "${each##*/} $input" $(cat "$work/out" "$work/took")
         done
     done
 done > "$work/all"

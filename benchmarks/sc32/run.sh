@@ -1,12 +1,12 @@
 #!/usr/bin/env bash
-# Times SC-32 side by side: crates/sc32 as `rt check` builds it, and the twin in Rust with -O.
+# Times SC-32 side by side: crates/sc32 as `rt run` builds it, and the twin in Rust with -O.
 # Both read the same 16 MiB; the programs run in turn, and each time below is the best of the runs.
 # usage: benchmarks/sc32/run.sh [RUNS]
 . "$(dirname "$0")/../begin.sh"
 begin sc32_speed benchmarks/sc32/twin.rs "${1:-15}"
 head -c 16777216 /dev/urandom > "$work/input"
 for _ in $(seq "$runs"); do
-    target/bin/sc32_speed < "$work/input" > "$work/sum" 2> "$work/took"
+    "$program" < "$work/input" > "$work/sum" 2> "$work/took"
     echo "rattle $(cat "$work/sum") $(cat "$work/took")"
     "$work/twin" < "$work/input"
 done > "$work/all"
