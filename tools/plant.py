@@ -48,14 +48,15 @@ def main():
                 continue
             with open(path, "w") as f:
                 f.write(text.replace(old, new))
-            run = subprocess.run(["rt", "check", crate], cwd=copy, capture_output=True, text=True)
-            out = run.stdout + run.stderr
-            proved = "logic=proved" in out.splitlines()[-1] if out.strip() else False
-            first = next((l for l in out.splitlines() if ": error" in l or ": no proof" in l), "")
-            weak = bool(LOST.search(first))
-            bad = ": error[" in first
+            folder = os.path.join(copy, "crates", crate)
+            run = subprocess.run(["rt", "check"], cwd=folder, capture_output=True, text=True)
+            lines = (run.stdout + run.stderr).splitlines()
+            proved = any(l.startswith("logic=proved") for l in lines)
+            told = next((l for l in lines if ": error" in l or " not proved" in l), "")
+            weak = bool(LOST.search(told))
+            bad = ": error[" in told or not proved and not any(l.startswith("logic=not-proved") for l in lines)
             verdict = "ACCEPTED" if proved else "BAD" if bad else "weak" if weak else "refused"
-            print("%-8s %s (%s)" % (verdict, bug["what"], first.replace(copy + "/", "")[:200]), flush=True)
+            print("%-8s %s (%s)" % (verdict, bug["what"], told.replace(copy + "/", "")[:200]), flush=True)
             accepted += proved or bad or weak
             with open(path, "w") as f:
                 f.write(text)

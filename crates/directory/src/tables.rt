@@ -91,7 +91,7 @@ fn run_of(prior: &[u8], car: &Car, run: usize) -> usize
 fn vehicle_row(car: &Car, train: &[Car], run: usize) -> VehicleRow
     requires few { length train.now ≤ 63 }
     requires ran { run ≤ 63 }
-    ensures { result ≡ vehicle_row_of train.now (record { car = car.entry.now; run = run }) }
+    ensures { result ≡ vehicle_row_of train.now (record { car = car.now; run = run }) }
 {
     VehicleRow {
         name: car.name,

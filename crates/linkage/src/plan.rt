@@ -113,7 +113,7 @@ pub extern "C" fn yoltsjer_plan<'a>(
     out: &mut [u8],
     answer: &mut Answer,
 ) -> u32
-    ensures { Planned (record { book = book.entry.now; etb = etb_counter; formation = formation.now; claimed = claimed.now; vehicle = vehicle; direction = direction; confirmed = confirmed.now }) out.old out.new result answer.new }
+    ensures { Planned (record { book = book.now; etb = etb_counter; formation = formation.now; claimed = claimed.now; vehicle = vehicle; direction = direction; confirmed = confirmed.now }) out.old out.new result answer.new }
 {
     let plan = Plan {
         book,
