@@ -29,6 +29,16 @@ def blocks(path):
             yield dict(re.findall(r"^(what|file|old|new): ?(.*)$", block, re.M))
 
 
+def verdict_of(lines):
+    """The verdict on a check that printed these lines, and the line that tells why."""
+    told = next((l for l in lines if ": error" in l or " not proved" in l), "")
+    if any(l.startswith("logic=proved") for l in lines):
+        return "ACCEPTED", told
+    if ": error[" in told or not any(l.startswith("logic=not-proved") for l in lines):
+        return "BAD", told
+    return "weak" if LOST.search(told) else "refused", told
+
+
 def main():
     plan = sys.argv[1]
     crate = os.path.splitext(os.path.basename(plan))[0]
@@ -50,14 +60,9 @@ def main():
                 f.write(text.replace(old, new))
             folder = os.path.join(copy, "crates", crate)
             run = subprocess.run(["rt", "check"], cwd=folder, capture_output=True, text=True)
-            lines = (run.stdout + run.stderr).splitlines()
-            proved = any(l.startswith("logic=proved") for l in lines)
-            told = next((l for l in lines if ": error" in l or " not proved" in l), "")
-            weak = bool(LOST.search(told))
-            bad = ": error[" in told or not proved and not any(l.startswith("logic=not-proved") for l in lines)
-            verdict = "ACCEPTED" if proved else "BAD" if bad else "weak" if weak else "refused"
+            verdict, told = verdict_of((run.stdout + run.stderr).splitlines())
             print("%-8s %s (%s)" % (verdict, bug["what"], told.replace(copy + "/", "")[:200]), flush=True)
-            accepted += proved or bad or weak
+            accepted += verdict != "refused"
             with open(path, "w") as f:
                 f.write(text)
     return 1 if accepted else 0
