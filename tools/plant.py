@@ -9,8 +9,8 @@ The file has blocks of lines, an empty line between them:
     old: TEXT
     new: TEXT
 `old` stands once in the file; `\\n` in either stands for a new line. Works in a copy of the repository.
-Prints a line a bug: refused; weak, if a proof file only lost a name or a field of the code, which shows
-nothing; BAD, if the code did not compile; or ACCEPTED. Exit status 1 unless all are refused.
+Prints a line a bug: refused, by a fact; weak, if all that the check says is that a proof file lost a name or a
+field of the code, which shows nothing; BAD, if the code did not compile; or ACCEPTED. Exit status 1 unless all are refused.
 """
 import os
 import re
@@ -20,7 +20,7 @@ import sys
 import tempfile
 
 
-LOST = re.compile(r"has no field|has no `|can be named from here|is not in scope")
+LOST = re.compile(r"has no field|has no `|can be named from here|is not in scope|was not admitted")
 
 
 def blocks(path):
@@ -31,12 +31,16 @@ def blocks(path):
 
 def verdict_of(lines):
     """The verdict on a check that printed these lines, and the line that tells why."""
-    told = next((l for l in lines if ": error" in l or " not proved" in l), "")
-    if any(l.startswith("logic=proved") for l in lines):
+    said = [l for l in lines if l.startswith("logic=")]
+    told = [l for l in lines if re.match(r"(note: )?\S+:\d+:\d+:", l) and (": error" in l or l.startswith("note: "))]
+    facts = [l for l in told if not LOST.search(l)]
+    told = (facts or told or [""])[0]
+    # A check also tells of the libraries that it builds first; the crate's own verdict is the last.
+    if said and said[-1].startswith("logic=proved"):
         return "ACCEPTED", told
-    if ": error[" in told or not any(l.startswith("logic=not-proved") for l in lines):
+    if not said or any(": error[" in l for l in lines):
         return "BAD", told
-    return "weak" if LOST.search(told) else "refused", told
+    return "refused" if facts else "weak", told
 
 
 def main():
