@@ -1,6 +1,9 @@
 -- The rule for names: what the loops find, and the rule in its own words.
-use Rattle.std.proofs.Common.{◌≡◌, ℕ, zero, suc, ◌+◌, ◌-◌, ◌<◌, ◌≤◌, Bool, true, false, cond, ◌&&◌, eqb, leb, ◌⊎◌, List, [], ◌∷◌, ◌++◌, length, get_or, take, drop, replicate, Decides, sym, refl, ap, ◌∙◌, ap₂, inl, inr, arith}
-use Rattle.std.specs.List.{AllByRecursion}
+use Rattle.std.proofs.Common.{◌≡◌, ℕ, zero, suc, ◌+◌, ◌-◌, ◌<◌, ◌≤◌, Bool, true, false, cond, not, ◌&&◌, eqb, ltb, ◌==◌, leb, ◌⊎◌, List, [], ◌∷◌, ◌++◌, length, get_or, take, drop, replicate, Some, None, Decides, sym, refl, ap, ◌∙◌, ap₂, inl, inr, arith}
+use Rattle.std.specs.List.{AllByRecursion, position, position_or_len}
+use Rattle.std.specs.Option.{unwrap_or}
+use Rattle.std.proofs.lemmas.List.Folds.{length-prefix_len}
+use Rattle.std.proofs.lemmas.List.Sums.{prefix_len-le-length}
 use Rattle.std.specs.Str.{bytes_eq}
 use Rattle.std.proofs.lemmas.List.{take_more, drop_more, drop_all, take_all, take_rest, append-nil, append_assoc, drop-replicate, length-replicate}
 use Rattle.std.proofs.lemmas.Bool.{and_parts, and_from, and_left, and_right, eq-eqb, ne_eqb, leb-true, le-leb}
@@ -9,29 +12,33 @@ use Rattle.std.proofs.ByRecursion.{Decides-by_and}
 use Rattle.std.proofs.lemmas.Slice.Eq.{bytes_eq-Decides}
 use Rattle.train.specs.Names.{every, printable, text_of, padded, name_text, well_formed, IsName}
 
-module _ (bs : List ℕ) (i : ℕ) where
-  pub text_past : i < length bs → (get_or bs i 0 ≡ 0 → ⊥) → take i bs ++ text_of (drop i bs) ≡ take (i + 1) bs ++ text_of (drop (i + 1) bs)
-  text_past h n =
-      let z : eqb (get_or bs i 0) 0 ≡ false = ne_eqb (get_or bs i 0) 0 n in
-      rw (drop_more bs i 0, z, take_more bs i 0) (sym (append_assoc (take i bs) (get_or bs i 0 ∷ []) (text_of (drop (i + 1) bs))))
+-- its length is that of the bytes in front of the first zero byte
+zero_first : (b : ℕ) (t : Bool) (bs : List ℕ) → eqb b 0 ≡ t → text_of bs ≡ take (position_or_len (λ b. b == 0) bs) bs
+    → cond t [] (b ∷ text_of bs) ≡ take (cond (not t) (1 + position_or_len (λ b. b == 0) bs) 0) (b ∷ bs)
+zero_first b true bs e h = refl
+zero_first b false bs e h =
+    let n = position_or_len (λ b. b == 0) bs in
+    let z : suc n ≡ 1 + n = omega arith in
+    ap (λ (t : List ℕ). b ∷ t) h ∙ ap (λ (m : ℕ). take m (b ∷ bs)) z
 
-  pub text_here : i < length bs → get_or bs i 0 ≡ 0 → take i bs ++ text_of (drop i bs) ≡ take i bs
-  text_here h e =
-      let z : eqb (get_or bs i 0) 0 ≡ true = eq-eqb (get_or bs i 0) 0 e in
-      rw (drop_more bs i 0, z, append-nil)
+pub text_of-take : (bs : List ℕ) → text_of bs ≡ take (position_or_len (λ b. b == 0) bs) bs
+text_of-take [] = refl
+text_of-take (b ∷ bs) = zero_first b (eqb b 0) bs refl (text_of-take bs)
 
-  pub text_all : length bs ≤ i → take i bs ++ text_of (drop i bs) ≡ take i bs
-  text_all h = rw (drop_all, append-nil)
+length-text_of : (bs : List ℕ) → length (text_of bs) ≡ position_or_len (λ b. b == 0) bs
+length-text_of bs = ap length (text_of-take bs) ∙ length-prefix_len (λ b. not (b == 0)) bs
 
-module _ {A : Type 0} (good : A → Bool) (xs : List A) (i : ℕ) where
-  pub every_past : (d : A) → i < length xs → good (get_or xs i d) ≡ true → every good (drop i xs) ≡ every good (drop (i + 1) xs)
-  every_past d h e = rw (drop_more xs i d, e)
+pub text_of-take_length : (bs : List ℕ) → take (length (text_of bs)) bs ≡ text_of bs
+text_of-take_length bs = ap (λ (n : ℕ). take n bs) (length-text_of bs) ∙ sym (text_of-take bs)
 
-  pub every_here : (d : A) → i < length xs → good (get_or xs i d) ≡ false → every good (drop i xs) ≡ false
-  every_here d h e = rw (drop_more xs i d, e)
+found_or : (n l : ℕ) (t : Bool) → ltb n l ≡ t → n ≤ l → unwrap_or (cond t (Some n) None) l ≡ n
+found_or n l true e h = refl
+found_or n l false e h = grind (arith, nat_tests)
 
-  pub every_none : length xs ≤ i → every good (drop i xs) ≡ true
-  every_none h = rw drop_all
+pub first_zero_or_len : (bs : List ℕ) → unwrap_or (position (λ b. b == 0) bs) (length bs) ≡ length (text_of bs)
+first_zero_or_len bs =
+    let n = position_or_len (λ b. b == 0) bs in
+    found_or n (length bs) (ltb n (length bs)) refl (prefix_len-le-length (λ b. not (b == 0)) bs) ∙ sym (length-text_of bs)
 
 -- the test of a whole name goes on behind its text
 behind_byte : (b : ℕ) (bs : List ℕ) (k : ℕ) (z : Bool) → eqb b 0 ≡ z
@@ -55,25 +62,25 @@ module _ (bs : List ℕ) (n : ℕ) (len : n ≡ length (text_of bs)) where
       let t = length (text_of bs) in
       and_from (leb 1 t) (leb t 15) (le-leb 1 t (omega (arith, len))) (le-leb t 15 (omega (arith, len)))
 
-  rest_zero : n ≤ 15 → bytes_eq bs (padded (text_of bs)) ≡ bytes_eq (take (length bs - n) (drop n bs)) (take (16 - n) (drop n (replicate 16 0)))
+  rest_zero : n ≤ 15 → bytes_eq bs (padded (text_of bs)) ≡ bytes_eq (drop n bs) (take (16 - n) (drop n (replicate 16 0)))
   rest_zero h =
       let long = length-replicate {A = ℕ} (16 - n) 0 in
       let cut : take (16 - n) (drop n (replicate {A = ℕ} 16 0)) ≡ replicate (16 - n) 0 =
       ap (take (16 - n)) (drop-replicate {X = ℕ} n 16 0) ∙ take_all (16 - n) (replicate (16 - n) 0) (omega (arith, long)) in
       same_behind bs (16 - length (text_of bs)) ∙ ap (λ (m : ℕ). bytes_eq (drop m bs) (replicate (16 - m) 0)) (sym len)
-      ∙ ap₂ bytes_eq (sym (take_rest bs n)) (sym cut)
+      ∙ ap (bytes_eq (drop n bs)) (sym cut)
 
   pub unprinted : (front : List ℕ) → front ≡ text_of bs → every printable front ≡ false → false ≡ well_formed bs
   unprinted front e p =
       let q : every printable (text_of bs) ≡ false = ap (every printable) (sym e) ∙ p in
       sym (and_left _ _ (and_right _ _ q))
 
-  pub printed : (front : List ℕ) (r : Bool) → front ≡ text_of bs → 1 ≤ n → n ≤ 15 → every printable front ≡ true
-      → r ≡ bytes_eq (take (length bs - n) (drop n bs)) (take (16 - n) (drop n (replicate 16 0))) → r ≡ well_formed bs
-  printed front r e h k p s =
+  pub printed : (front rest : List ℕ) (r : Bool) → front ≡ text_of bs → rest ≡ drop n bs → 1 ≤ n → n ≤ 15 → every printable front ≡ true
+      → r ≡ bytes_eq rest (take (16 - n) (drop n (replicate 16 0))) → r ≡ well_formed bs
+  printed front rest r e f h k p s =
       let q : every printable (text_of bs) ≡ true = ap (every printable) (sym e) ∙ p in
       let t : name_text (text_of bs) ≡ true = and_from _ _ (inside h k) q in
-      rw t (s ∙ sym (rest_zero k))
+      rw t (s ∙ ap (λ (bytes : List ℕ). bytes_eq bytes (take (16 - n) (drop n (replicate {A = ℕ} 16 0)))) f ∙ sym (rest_zero k))
 
 -- the rule in its own words
 printable_decides : (b : ℕ) → Decides (printable b) ((32 ≤ b) × (b ≤ 126))

@@ -30,16 +30,6 @@ module _ {A : Type 0} (rule : Rule A) (reason : Reason) (xs : List A) (i : ℕ) 
   pub each_all : (part : Part) → length xs ≤ i → breach part (each_behind rule reason (take i xs) (drop i xs)) ≡ None
   each_all part h = rw drop_all
 
-module _ {A : Type 0} (alike : A → A → Bool) (x : A) (ys : List A) (i : ℕ) where
-  pub among_past : (y d : A) → y ≡ get_or ys i d → i < length ys → alike x y ≡ false → among alike x (drop i ys) ≡ among alike x (drop (i + 1) ys)
-  among_past y d is h e = let t : alike x (get_or ys i d) ≡ false = ap (alike x) (sym is) ∙ e in rw (drop_more ys i d, t)
-
-  pub among_here : (y d : A) → y ≡ get_or ys i d → i < length ys → alike x y ≡ true → among alike x (drop i ys) ≡ true
-  among_here y d is h e = let t : alike x (get_or ys i d) ≡ true = ap (alike x) (sym is) ∙ e in rw (drop_more ys i d, t)
-
-  pub among_none : length ys ≤ i → among alike x (drop i ys) ≡ false
-  among_none h = rw drop_all
-
 -- checks one behind another
 pub refusal-joined : (part : Part) (cs ds : List Check) → refusal part (cs ++ ds) ≡ or_else (refusal part cs) (refusal part ds)
 refusal-joined part [] ds = refl

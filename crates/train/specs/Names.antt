@@ -1,6 +1,6 @@
 -- The rule for names.
 use Rattle.std.specs.Prelude.{◌≡◌, ℕ, ◌-◌, ◌≤◌, Bool, true, cond, ◌&&◌, List, [], ◌∷◌, ◌++◌, length, replicate, ◌==◌, nat_le}
-use Rattle.std.specs.List.{AllByRecursion}
+use Rattle.std.specs.List.{AllByRecursion, list_all}
 use Rattle.std.specs.Str.{bytes_eq}
 
 -- from 20 to 7E hex
@@ -8,8 +8,7 @@ abbrev pub printable : ℕ → Bool
 printable b = nat_le 32 b && nat_le b 126
 
 abbrev pub every : {A : Type 0} → (A → Bool) → List A → Bool
-every good [] = true
-every good (x ∷ xs) = good x && every good xs
+every good xs = list_all good xs
 
 -- a text, filled up with zero bytes to sixteen
 abbrev pub padded : List ℕ → List ℕ

@@ -1,5 +1,6 @@
 -- Refusals: the number of each reason, and the first of a list of checks that is not met.
-use Rattle.std.specs.Prelude.{ℕ, ◌+◌, Bool, true, false, cond, not, ◌&&◌, ◌||◌, List, [], ◌∷◌, ◌++◌, length, Some, None, Ok, Err, Option, Result}
+use Rattle.std.specs.Prelude.{ℕ, ◌+◌, Bool, true, false, cond, not, ◌&&◌, List, [], ◌∷◌, ◌++◌, length, Some, None, Ok, Err, Option, Result}
+use Rattle.std.specs.List.{list_any}
 use Rattle.train.specs.declared.refusal.Part.{Part}
 use Rattle.train.specs.declared.refusal.Place.{Place}
 use Rattle.train.specs.declared.refusal.Place.TheVariants.{At}
@@ -91,8 +92,7 @@ abbrev pub alone : {A : Type 0} → (A → Bool) → Rule A
 alone good before x = good x
 
 abbrev pub among : {A : Type 0} → (A → A → Bool) → A → List A → Bool
-among alike x [] = false
-among alike x (y ∷ ys) = alike x y || among alike x ys
+among alike x ys = list_any (alike x) ys
 
 -- the rule that no entry is like one before it
 abbrev pub fresh : {A : Type 0} → (A → A → Bool) → Rule A

@@ -1,12 +1,13 @@
 // Checks over the entries of a lent slice that several calls make: each runs over all entries, in
 // order, and refuses at the first that breaks its rule.
-ghost use Rattle.std.specs.Prelude.{◌≡◌, ℕ, List};
+ghost use Rattle.std.specs.Prelude.{◌≡◌, ℕ, Bool, List};
 ghost use Rattle.train.specs.Facings.{known};
 ghost use Rattle.train.specs.Identities.{is_identity};
 ghost use Rattle.train.specs.Names.{well_formed};
 ghost use Rattle.train.specs.Refusals.{refusal_of, breach, must, each, alone, among, fresh, by};
 ghost use Rattle.train.specs.declared.facing.Facing.{Facing};
 ghost use Rattle.train.specs.declared.refusal.Reason.TheVariants.{IdentityOrder, NameForm, UnknownFacing, Repeated};
+ghost use Rattle.train.specs.Tests.{Tests};
 ghost use Rattle.std.specs.Str.{bytes_eq};
 
 use crate::entries::{Coupled, Vehicle};
@@ -82,52 +83,64 @@ pub fn require(part: Part, ok: bool, reason: Reason) -> Result<(), Refusal>
     }
 }
 
+/// Every entry passes a test; the first that fails it is refused.
+pub fn each_passes<T, F: Fn(&T) -> bool>(
+    part: Part,
+    reason: Reason,
+    entries: &[T],
+    passes: F,
+) -> Result<(), Refusal>
+    requires { F.IsAlwaysCallable passes }
+    ensures { (test : T → Bool) → Tests F.Fn passes test → refusal_of result ≡ breach part (each (alone test) reason entries.now) }
+{
+    for (i, x) in entries.iter().enumerate() {
+        if !passes(x) {
+            return Err(Refusal::at(part, reason, i + 1));
+        }
+    }
+    Ok(())
+}
+
 /// Every entry faces direct or inverse.
 pub fn facings_known<T: Faced>(part: Part, entries: &[T]) -> Result<(), Refusal>
     ensures { refusal_of result ≡ breach part (each (alone (λ x. known (T.Faced.faces x))) UnknownFacing entries.now) }
 {
-    for (i, x) in entries.iter().enumerate() {
-        if !x.way().is_known() {
-            return Err(Refusal::at(part, Reason::UnknownFacing, i + 1));
-        }
-    }
-    Ok(())
+    each_passes(part, Reason::UnknownFacing, entries, |x| x.way().is_known())
 }
 
 /// Every label is an identity that a consist may have.
 pub fn identities_well_formed<T: Labelled>(part: Part, entries: &[T]) -> Result<(), Refusal>
     ensures { refusal_of result ≡ breach part (each (alone (λ x. is_identity (T.Labelled.labels x))) IdentityOrder entries.now) }
 {
-    for (i, x) in entries.iter().enumerate() {
-        if !identity::well_formed(x.label()) {
-            return Err(Refusal::at(part, Reason::IdentityOrder, i + 1));
-        }
-    }
-    Ok(())
+    each_passes(part, Reason::IdentityOrder, entries, |x| {
+        identity::well_formed(x.label())
+    })
 }
 
 /// Every label is a well-formed name.
 pub fn names_well_formed<T: Labelled>(part: Part, entries: &[T]) -> Result<(), Refusal>
     ensures { refusal_of result ≡ breach part (each (alone (λ x. well_formed (T.Labelled.labels x))) NameForm entries.now) }
 {
-    for (i, x) in entries.iter().enumerate() {
-        if !name::well_formed(x.label()) {
-            return Err(Refusal::at(part, Reason::NameForm, i + 1));
-        }
-    }
-    Ok(())
+    each_passes(
+        part,
+        Reason::NameForm,
+        entries,
+        |x| name::well_formed(x.label()),
+    )
+}
+
+/// Whether two entries have the same label.
+fn are_alike<T: Labelled>(x: &T, y: &T) -> bool
+    ensures { result ≡ by bytes_eq T.Labelled.labels x.now y.now }
+{
+    octets::same(x.label(), y.label())
 }
 
 /// Whether an entry with the label of `x` is among these.
 pub fn stands_among<T: Labelled>(x: &T, entries: &[T]) -> bool
     ensures { result ≡ among (by bytes_eq T.Labelled.labels) x.now entries.now }
 {
-    for y in entries {
-        if octets::same(x.label(), y.label()) {
-            return true;
-        }
-    }
-    false
+    entries.iter().any(|y| are_alike(x, y))
 }
 
 /// No label stands twice; the place is the second's.

@@ -4,14 +4,14 @@ use crate::identity::Identity;
 use crate::name::Name;
 
 /// A vehicle, and which way it faces in its consist.
-#[derive(Clone, Copy, Debug)]
+#[derive(Clone, Copy, Default, Debug)]
 pub struct Vehicle {
     pub name: Name,
     pub facing: Facing,
 }
 
 /// An entry of a formation: a consist, and which way it faces in the train.
-#[derive(Clone, Copy, Debug)]
+#[derive(Clone, Copy, Default, Debug)]
 pub struct Coupled {
     pub identity: Identity,
     pub facing: Facing,

@@ -1,9 +1,10 @@
 // Which way something stands along what holds it.
-ghost use Rattle.std.specs.Prelude.{◌≡◌};
+ghost use Rattle.std.specs.Prelude.{◌≡◌, ok_or};
 ghost use Rattle.train.specs.Facings.{code, coded, known, composed, opposite, FacingLaws};
 
-#[derive(Clone, Copy, PartialEq, Eq, Debug)]
+#[derive(Clone, Copy, Default, PartialEq, Eq, Debug)]
 pub enum Facing {
+    #[default]
     NotKnown = 0,
     Direct = 1,
     Inverse = 2,
@@ -14,19 +15,14 @@ impl Facing {
     pub fn number(self) -> u8
         ensures { result ≡ code self }
     {
-        self as u8
+        u8::from(self)
     }
 
     /// The facing that a number writes, if it writes one.
     pub fn from_number(number: u8) -> Option<Facing>
         ensures { result ≡ coded number }
     {
-        match number {
-            0 => Some(Facing::NotKnown),
-            1 => Some(Facing::Direct),
-            2 => Some(Facing::Inverse),
-            _ => None,
-        }
+        Facing::try_from(number).ok()
     }
 
     /// Whether it is direct or inverse.
@@ -59,6 +55,35 @@ impl Facing {
             Facing::NotKnown => Facing::NotKnown,
             Facing::Direct => Facing::Inverse,
             Facing::Inverse => Facing::Direct,
+        }
+    }
+}
+
+impl From<Facing> for u8 {
+    ghost from_gives = { λ facing n. n ≡ code facing };
+
+    fn from(facing: Facing) -> u8 {
+        facing as u8
+    }
+}
+
+/// A number that writes no facing.
+#[derive(Clone, Copy, PartialEq, Eq, Debug)]
+pub struct NoFacing {
+    pub number: u8,
+}
+
+impl TryFrom<u8> for Facing {
+    type Error = NoFacing;
+
+    ghost try_from_gives = { λ n read. read ≡ ok_or (coded n) (record { number = n }) };
+
+    fn try_from(number: u8) -> Result<Facing, NoFacing> {
+        match number {
+            0 => Ok(Facing::NotKnown),
+            1 => Ok(Facing::Direct),
+            2 => Ok(Facing::Inverse),
+            _ => Err(NoFacing { number }),
         }
     }
 }

@@ -13,7 +13,7 @@ use crate::octets;
 use std::cmp::Ordering;
 
 /// Any sixteen bytes; all zero is no consist's identity.
-#[derive(Clone, Copy, Debug)]
+#[derive(Clone, Copy, Default, Debug)]
 pub struct Identity {
     pub bytes: [u8; 16],
 }

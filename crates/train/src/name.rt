@@ -13,7 +13,7 @@ use crate::octets;
 use std::cmp::Ordering;
 
 /// Any sixteen bytes; `is_well_formed` tells whether they are a name.
-#[derive(Clone, Copy, Debug)]
+#[derive(Clone, Copy, Default, Debug)]
 pub struct Name {
     pub bytes: [u8; 16],
 }
@@ -26,23 +26,13 @@ pub fn text_len(bytes: &[u8]) -> usize
     ensures front { take result bytes.now ≡ text_of bytes.now }
     ensures bound { result ≤ length bytes.now }
 {
-    for (i, b) in bytes.iter().enumerate() {
-        if *b == 0 {
-            return i;
-        }
-    }
-    bytes.len()
+    bytes.iter().position(|b| *b == 0).unwrap_or(bytes.len())
 }
 
 fn all_printable(bytes: &[u8]) -> bool
     ensures { result ≡ every printable bytes.now }
 {
-    for b in bytes {
-        if *b < 0x20 || *b > 0x7e {
-            return false;
-        }
-    }
-    true
+    bytes.iter().all(|b| matches!(*b, b' '..=b'~'))
 }
 
 /// Whether these bytes are a name.
@@ -54,8 +44,8 @@ pub fn well_formed(bytes: &[u8]) -> bool
     if n == 0 || n > LONGEST {
         return false;
     }
-    let zeros = [0; 16];
-    all_printable(&bytes[0..n]) && octets::same(&bytes[n..], &zeros[n..])
+    let (text, rest) = bytes.split_at(n);
+    all_printable(text) && octets::same(rest, &[0; 16][n..])
 }
 
 impl Name {

@@ -34,13 +34,7 @@ pub fn is_below(a: &[u8], b: &[u8]) -> bool
 pub fn rank(a: &[u8], b: &[u8]) -> Ordering
     ensures { result ≡ ranked a.now b.now }
 {
-    if same(a, b) {
-        Ordering::Equal
-    } else if is_below(a, b) {
-        Ordering::Less
-    } else {
-        Ordering::Greater
-    }
+    a.cmp(b)
 }
 
 /// Whether these are sixteen zero bytes.

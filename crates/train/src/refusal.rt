@@ -16,7 +16,7 @@ pub enum Part {
 }
 
 /// Each reason has a number; the cases stand in the order of their numbers.
-#[derive(Clone, Copy, Debug)]
+#[derive(Clone, Copy, PartialEq, Eq, Debug)]
 pub enum Reason {
     /// 1: a line of a fleet list breaks the form.
     LineForm,
@@ -74,20 +74,6 @@ impl Reason {
     {
         self as u8 + 1
     }
-}
-
-impl PartialEq for Reason {
-    ghost eq = { λ a b. (numbered a == numbered b) };
-
-    ghost laws = { Keys.partial_equiv_from_equiv (Prim.search (comparing, rules)) };
-
-    fn eq(&self, other: &Reason) -> bool {
-        self.number() == other.number()
-    }
-}
-
-impl Eq for Reason {
-    ghost laws = { Prim.search (comparing, rules) };
 }
 
 /// Where: a place counted from 1, or 0 where none is named; in a text a line and a byte of it.

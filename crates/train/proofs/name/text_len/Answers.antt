@@ -1,22 +1,16 @@
-use Rattle.std.proofs.Common.{◌≡◌, length, take, sym, ap, ◌∙◌, arith}
-use Rattle.std.proofs.lemmas.List.{length-take-le, take_all}
-use Rattle.train.specs.Names.{text_of}
-use Rattle.train.proofs.Names.{text_past, text_here, text_all}
+use Rattle.std.proofs.Common.{rules, tests, ◌==◌, ℕ, length, take, ap, ◌∙◌}
+use Rattle.std.proofs.lemmas.Iterator.{YieldsList-from_slice}
+use Rattle.std.proofs.lemmas.Iterator.Search.{position_from_yields_List}
+use Rattle.std.specs.Option.{unwrap_or}
+use Rattle.train.proofs.Names.{first_zero_or_len, text_of-take_length}
 use Rattle.train.proofs.name.text_len.Goals as goal
 
-pub returns-then-b-eq0 : goal.returns-then-b-eq0
-returns-then-b-eq0 c =
-    let bs = c.args.bytes.now in
-    let i = c.loop-i.i in
-    let e : text_of bs ≡ take i bs = c.loop-i.invariant ∙ text_here bs i c.loop-i-test.true c.if-b-eq0.true in
-    record { value = sym (ap length e ∙ length-take-le i bs (omega arith)); front = sym e; bound = omega arith }
+pub returns-clause-value : goal.returns-clause-value
+returns-clause-value c =
+    c.unwrap_or.ensures
+    ∙ ap (λ found. unwrap_or found (length c.args.bytes.now))
+    (position_from_yields_List (λ b. b == 0) _ _ _ c.position.ensures.ran (YieldsList-from_slice c.args.bytes.now (cc)) (λ x b q k. search (rules, tests)))
+    ∙ first_zero_or_len c.args.bytes.now
 
-pub loop-i-preserved : goal.loop-i-preserved
-loop-i-preserved c = c.loop-i.invariant ∙ text_past c.args.bytes.now c.loop-i.i c.loop-i-test.true c.if-b-eq0.false
-
-pub returns : goal.returns
-returns c =
-    let bs = c.args.bytes.now in
-    let i = c.loop-i.i in
-    let e : text_of bs ≡ bs = c.loop-i.invariant ∙ text_all bs i c.loop-i-test.false ∙ take_all i bs c.loop-i-test.false in
-    record { value = sym (ap length e); front = take_all (length bs) bs (omega arith) ∙ sym e; bound = omega arith }
+pub returns-clause-front : goal.returns-clause-front
+returns-clause-front c = ap (λ (n : ℕ). take n c.args.bytes.now) (returns-clause-value c) ∙ text_of-take_length c.args.bytes.now

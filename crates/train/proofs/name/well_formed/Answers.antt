@@ -3,9 +3,6 @@ use Rattle.train.specs.Names.{text_of}
 use Rattle.train.proofs.Names.{outside, unprinted, printed, name_rule_at}
 use Rattle.train.proofs.name.well_formed.Goals as goal
 
-front : (bs : List ℕ) (n : ℕ) → take n bs ≡ text_of bs → take (n - 0) bs ≡ text_of bs
-front bs n e = let z : n - 0 ≡ n = omega arith in ap (λ (m : ℕ). take m bs) z ∙ e
-
 pub returns-then-n-eq0 : goal.returns-then-n-eq0
 returns-then-n-eq0 c =
     let bs = c.args.bytes.now in
@@ -18,7 +15,7 @@ pub returns-then-all_printable : goal.returns-then-all_printable
 returns-then-all_printable c =
     let bs = c.args.bytes.now in
     let n = c.text_len-n.result in
-    let e = printed bs n c.text_len-n.ensures.value _ c.same.result (front bs n c.text_len-n.ensures.front) (omega arith) (omega arith)
+    let e = printed bs n c.text_len-n.ensures.value _ _ c.same.result (c.split_at.ensures.front ∙ c.text_len-n.ensures.front) c.split_at.ensures.back (omega arith) (omega arith)
     (sym c.if-all_printable.ensures) c.same.ensures in
     record { value = e; rule = name_rule_at bs _ e }
 
@@ -26,6 +23,6 @@ pub returns-else-all_printable : goal.returns-else-all_printable
 returns-else-all_printable c =
     let bs = c.args.bytes.now in
     let n = c.text_len-n.result in
-    let no = unprinted bs n c.text_len-n.ensures.value _ (front bs n c.text_len-n.ensures.front) (sym c.if-all_printable.ensures) in
+    let no = unprinted bs n c.text_len-n.ensures.value _ (c.split_at.ensures.front ∙ c.text_len-n.ensures.front) (sym c.if-all_printable.ensures) in
     let e = c.if-all_printable.false ∙ no in
     record { value = e; rule = name_rule_at bs _ e }
