@@ -1,9 +1,11 @@
 -- Four bytes at once: each has its own table.
 -- Assumes nothing.
-use Rattle.std.proofs.Common.{◌≡◌, ℕ, ◌+◌, ◌*◌, ◌/◌, ◌%◌, ◌^◌, ◌<◌, sym, refl, ap, ◌∙◌, arith}
+use Rattle.std.proofs.Common.{◌≡◌, ℕ, ◌+◌, ◌*◌, ◌/◌, ◌%◌, ◌^◌, ◌<◌, List, length, get_or, w32, sym, refl, ap, ◌∙◌, arith}
+use Rattle.std.specs.Int.{to_be_bytes}
 use lib.Bits.{bit_xor, xor_assoc, xor_zero_l, xor_lt, xor_shifted}
-use Rattle.sc32.specs.Checksum.{bit_steps, byte_step}
+use Rattle.sc32.specs.Checksum.{bit_steps, byte_step, checksum}
 use Rattle.sc32.proofs.Shifts.{xor-shl, xor_swap, steps_low}
+use Rattle.sc32.proofs.Feeds.{word_fed}
 use Rattle.sc32.proofs.Linear.{steps_add, steps_linear, feed}
 
 -- n steps that only move the register, and m more
@@ -102,6 +104,22 @@ four_bytes r p q s t hr hp hq hs ht =
     gathered r p q s t hp hq hs ht ∙ ap (bit_steps 32) placed
     ∙ apart (bit_xor a p) (bit_xor b q) (bit_xor c s) (bit_xor d t) (xor_lt 8 a p (omega arith) hp) (xor_lt 8 b q (omega arith) hq) (xor_lt 8 c s (omega arith) hs) (xor_lt 8 d t (omega arith) ht)
 
-pub joined : (a b c d p q s t : ℕ) → a ≡ p → b ≡ q → c ≡ s → d ≡ t
-    → bit_xor a (bit_xor b (bit_xor c d)) ≡ bit_xor p (bit_xor q (bit_xor s t))
-joined a b c d p q s t ea eb ec ed = cc
+-- the four bytes of the register and four bytes more, each pair by its table
+pub by_tables : (r a b c d : ℕ) (ws bs : List ℕ) → r < 2 ^ 32 → ws ≡ to_be_bytes w32 r → length bs ≡ 4 → ((i : ℕ) → get_or bs i 0 < 256)
+    → a ≡ bit_steps 32 (bit_xor (get_or ws 0 0) (get_or bs 0 0) * 2 ^ 24)
+    → b ≡ bit_steps 24 (bit_xor (get_or ws 1 0) (get_or bs 1 0) * 2 ^ 24)
+    → c ≡ bit_steps 16 (bit_xor (get_or ws 2 0) (get_or bs 2 0) * 2 ^ 24)
+    → d ≡ bit_steps 8 (bit_xor (get_or ws 3 0) (get_or bs 3 0) * 2 ^ 24)
+    → bit_xor a (bit_xor b (bit_xor c d)) ≡ checksum r bs
+by_tables r a b c d ws bs h e l f ea eb ec ed =
+    let ws0 : get_or ws 0 0 ≡ r / 2 ^ 24 = ap (λ (xs : List ℕ). get_or xs 0 0) e ∙ omega arith in
+    let ws1 : get_or ws 1 0 ≡ r / 2 ^ 16 % 256 = ap (λ (xs : List ℕ). get_or xs 1 0) e ∙ omega arith in
+    let ws2 : get_or ws 2 0 ≡ r / 2 ^ 8 % 256 = ap (λ (xs : List ℕ). get_or xs 2 0) e ∙ omega arith in
+    let ws3 : get_or ws 3 0 ≡ r % 256 = ap (λ (xs : List ℕ). get_or xs 3 0) e ∙ omega arith in
+    let ga : a ≡ bit_steps 32 (bit_xor (r / 2 ^ 24) (get_or bs 0 0) * 2 ^ 24) = ea ∙ ap (λ (w : ℕ). bit_steps 32 (bit_xor w (get_or bs 0 0) * 2 ^ 24)) ws0 in
+    let gb : b ≡ bit_steps 24 (bit_xor (r / 2 ^ 16 % 256) (get_or bs 1 0) * 2 ^ 24) = eb ∙ ap (λ (w : ℕ). bit_steps 24 (bit_xor w (get_or bs 1 0) * 2 ^ 24)) ws1 in
+    let gc : c ≡ bit_steps 16 (bit_xor (r / 2 ^ 8 % 256) (get_or bs 2 0) * 2 ^ 24) = ec ∙ ap (λ (w : ℕ). bit_steps 16 (bit_xor w (get_or bs 2 0) * 2 ^ 24)) ws2 in
+    let gd : d ≡ bit_steps 8 (bit_xor (r % 256) (get_or bs 3 0) * 2 ^ 24) = ed ∙ ap (λ (w : ℕ). bit_steps 8 (bit_xor w (get_or bs 3 0) * 2 ^ 24)) ws3 in
+    let all = four_bytes r (get_or bs 0 0) (get_or bs 1 0) (get_or bs 2 0) (get_or bs 3 0) h (f 0) (f 1) (f 2) (f 3) in
+    let fed = word_fed r bs l in
+    cc

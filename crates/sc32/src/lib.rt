@@ -1,30 +1,21 @@
 // SC-32, a 32-bit checksum of a byte string from a seed, four bytes at a time.
 #![tactic(auto)]
 
-ghost use Rattle.std.specs.Prelude.{◌≡◌, ◌%◌, [], ◌∷◌, ◌++◌, length};
+ghost use Rattle.std.specs.Prelude.{◌≡◌, [], ◌∷◌, ◌++◌};
+ghost use Rattle.std.specs.List.{concat};
 ghost use Rattle.sc32.specs.Checksum.{checksum};
 
 use steps::{byte_step, four_step};
 
-mod entries;
 mod steps;
 mod tables;
 
-fn over_words(seed: u32, bytes: &[u8]) -> u32
-    requires { length bytes.now % 4 ≡ 0 }
-    ensures { result ≡ checksum seed bytes.now }
+fn over_words(seed: u32, words: &[[u8; 4]]) -> u32
+    ensures { result ≡ checksum seed (concat words.now) }
 {
     let mut register = seed;
-    let mut at = 0;
-    while at < bytes.len() {
-        register = four_step(
-            register,
-            bytes[at],
-            bytes[at + 1],
-            bytes[at + 2],
-            bytes[at + 3],
-        );
-        at += 4;
+    for word in words {
+        register = four_step(register, *word);
     }
     register
 }
@@ -43,7 +34,7 @@ fn over_bytes(seed: u32, bytes: &[u8]) -> u32
 pub fn sc32(seed: u32, bytes: &[u8]) -> u32
     ensures value { result ≡ checksum seed bytes.now }
 {
-    let (words, rest) = bytes.split_at(bytes.len() / 4 * 4);
+    let (words, rest) = bytes.as_chunks::<4>();
     over_bytes(over_words(seed, words), rest)
 }
 

@@ -1,16 +1,21 @@
-use Rattle.std.proofs.Common.{ℕ, ◌+◌, drop, sym, ap, ◌∙◌, arith}
+use Rattle.std.proofs.Common.{ℕ, List, [], get_or, sym, ap, ◌∙◌, arith, refl}
+use Rattle.std.proofs.lemmas.List.{take_all}
+use Rattle.std.specs.List.{concat}
 use Rattle.sc32.specs.Checksum.{checksum}
-use Rattle.sc32.proofs.Feeds.{four_on, none_left}
+use Rattle.sc32.proofs.Feeds.{one_word_more}
 use Rattle.sc32.proofs.over_words.Goals as goal
 
-pub loop-at-preserved : goal.loop-at-preserved
-loop-at-preserved c =
-    let xs = c.args.bytes.now in
-    let i = c.loop-at.at in (
-      omega arith,
-      omega arith,
-      ap (λ (r : ℕ). checksum r (drop (i + 4) xs)) c.four_step-register.ensures ∙ sym (four_on c.loop-at.register xs i (omega arith)) ∙ c.loop-at.invariant.2,
-    )
+pub loop-word-init : goal.loop-word-init
+unfolding checksum
+loop-word-init c = refl
+
+pub loop-word-preserved : goal.loop-word-preserved
+loop-word-preserved c =
+    let ws = c.args.words.now in
+    let i = c.loop-word.word-index in
+    c.four_step-register.ensures ∙ ap (λ (r : ℕ). checksum r (get_or ws i [])) c.loop-word.invariant ∙ sym (one_word_more c.args.seed ws i (omega arith))
 
 pub returns : goal.returns
-returns c = sym (none_left c.loop-at.register c.args.bytes.now c.loop-at.at (omega arith)) ∙ c.loop-at.invariant.2
+returns c =
+    let ws = c.args.words.now in
+    c.loop-word.invariant ∙ ap (λ (parts : List (List ℕ)). checksum c.args.seed (concat parts)) (take_all c.loop-word.word-index ws (omega arith))

@@ -16,8 +16,3 @@ loop-i-preserved g c test tests =
     c.loop-i.invariant test tests
     ∙ each_past (alone test) c.args.reason c.args.entries.now c.loop-i.i c.index-entries-i.result _ c.index-entries-i.is c.loop-i-test.true
     (sym (tests _ _ (says_at g.F.Fn c.if-not-passes.ensures refl)))
-
-pub returns : goal.returns
-returns g c test tests =
-    sym (ap (breach c.args.part) (c.loop-i.invariant test tests)
-    ∙ each_all (alone test) c.args.reason c.args.entries.now c.loop-i.i c.args.part c.loop-i-test.false)
