@@ -6,6 +6,7 @@ use Rattle.train.specs.declared.refusal.Place.TheVariants.{At}
 use Rattle.train.specs.declared.refusal.Reason.{Reason}
 use Rattle.train.specs.declared.refusal.Refusal.{Refusal}
 use Rattle.std.proofs.lemmas.Bool.{and_from}
+use Rattle.train.specs.Identities.{last_identity}
 use Rattle.train.specs.Names.{every}
 use Rattle.train.specs.Refusals.{Check, Rule, each_behind, breach, or_else, refusal, among, fresh}
 
@@ -80,3 +81,12 @@ fresh_told alike xs i x b e =
 
 pub then_answers : (part : Part) (cs ds : List Check) (o : Option Refusal) → None ≡ refusal part cs → o ≡ refusal part ds → o ≡ refusal part (cs ++ ds)
 then_answers part cs ds o h e = e ∙ sym (refusal-joined part cs ds ∙ ap (λ q. or_else q (refusal part ds)) (sym h))
+
+-- the identity before, one entry on
+last_added : {A : Type 0} (of : A → List ℕ) (before : List A) (x : A) → last_identity of (before ++ x ∷ []) ≡ of x
+last_added of [] x = refl
+last_added of (y ∷ []) x = refl
+last_added of (y ∷ z ∷ zs) x = last_added of (z ∷ zs) x
+
+pub last_more : {A : Type 0} (of : A → List ℕ) (xs : List A) (i : ℕ) (x d : A) → x ≡ get_or xs i d → i < length xs → of x ≡ last_identity of (take (i + 1) xs)
+last_more of xs i x d is h = ap of is ∙ sym (ap (last_identity of) (take_more xs i d h) ∙ last_added of (take i xs) (get_or xs i d))

@@ -6,3 +6,4 @@ pub mod Names
 pub mod Refusals
 pub mod Turning
 pub mod Tests
+pub mod Rows

@@ -1,5 +1,5 @@
 -- Refusals: the number of each reason, and the first of a list of checks that is not met.
-use Rattle.std.specs.Prelude.{ℕ, ◌+◌, Bool, true, false, cond, not, ◌&&◌, List, [], ◌∷◌, ◌++◌, length, Some, None, Ok, Err, Option, Result}
+use Rattle.std.specs.Prelude.{ℕ, ◌+◌, Bool, true, cond, not, ◌&&◌, List, [], ◌∷◌, ◌++◌, length, Some, None, Ok, Err, Option, Result}
 use Rattle.std.specs.List.{list_any}
 use Rattle.train.specs.declared.refusal.Part.{Part}
 use Rattle.train.specs.declared.refusal.Place.{Place}

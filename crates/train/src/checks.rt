@@ -2,7 +2,7 @@
 // order, and refuses at the first that breaks its rule.
 ghost use Rattle.std.specs.Prelude.{◌≡◌, ℕ, Bool, List};
 ghost use Rattle.train.specs.Facings.{known};
-ghost use Rattle.train.specs.Identities.{is_identity};
+ghost use Rattle.train.specs.Identities.{is_identity, rises, ascending};
 ghost use Rattle.train.specs.Names.{well_formed};
 ghost use Rattle.train.specs.Refusals.{refusal_of, breach, must, each, alone, among, fresh, by};
 ghost use Rattle.train.specs.declared.facing.Facing.{Facing};
@@ -151,6 +151,27 @@ pub fn labels_apart<T: Labelled>(part: Part, entries: &[T]) -> Result<(), Refusa
         if stands_among(x, &entries[0..i]) {
             return Err(Refusal::at(part, Reason::Repeated, i + 1));
         }
+    }
+    Ok(())
+}
+
+/// Whether an identity is not zero, and above the one before.
+fn is_rise(prior: &[u8], identity: &[u8]) -> bool
+    ensures { result ≡ rises prior.now identity.now }
+{
+    !octets::is_zero(identity) && octets::is_below(prior, identity)
+}
+
+/// Every label is not zero, and above the one before.
+pub fn identities_rise<T: Labelled>(part: Part, entries: &[T]) -> Result<(), Refusal>
+    ensures { refusal_of result ≡ breach part (each (ascending T.Labelled.labels) IdentityOrder entries.now) }
+{
+    let mut prior: &[u8] = &[];
+    for (i, x) in entries.iter().enumerate() {
+        if !is_rise(prior, x.label()) {
+            return Err(Refusal::at(part, Reason::IdentityOrder, i + 1));
+        }
+        prior = x.label();
     }
     Ok(())
 }

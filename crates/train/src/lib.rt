@@ -8,4 +8,5 @@ pub mod identity;
 pub mod name;
 pub mod octets;
 pub mod refusal;
+pub mod rows;
 pub mod turning;

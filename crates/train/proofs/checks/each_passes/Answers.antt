@@ -1,7 +1,7 @@
 use Rattle.std.proofs.Common.{Some, refl, sym, ap, ◌∙◌}
 use Rattle.std.proofs.lemmas.Fn.{says_at}
 use Rattle.train.specs.Refusals.{breach, alone}
-use Rattle.train.proofs.Rules.{each_past, each_here, each_all}
+use Rattle.train.proofs.Rules.{each_past, each_here}
 use Rattle.train.proofs.checks.each_passes.Goals as goal
 
 pub returns-then-not-passes : goal.returns-then-not-passes

@@ -1,5 +1,4 @@
-use Rattle.std.proofs.Common.{◌≡◌, ℕ, ◌-◌, ◌<◌, ◌⊎◌, List, take, sym, ap, ◌∙◌, inl, inr, arith}
-use Rattle.train.specs.Names.{text_of}
+use Rattle.std.proofs.Common.{◌≡◌, ◌<◌, ◌⊎◌, sym, ◌∙◌, inl, inr, arith}
 use Rattle.train.proofs.Names.{outside, unprinted, printed, name_rule_at}
 use Rattle.train.proofs.name.well_formed.Goals as goal
 
