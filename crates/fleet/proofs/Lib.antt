@@ -3,3 +3,4 @@ pub mod Finds
 pub mod Crowds
 pub mod Answered
 pub mod Identified
+pub mod Holds

@@ -1,5 +1,5 @@
--- A search by halving in rows whose identities rise.
-use Rattle.std.specs.Prelude.{◌≡◌, ℕ, zero, suc, ◌+◌, ◌<◌, ◌≤◌, Bool, true, false, not, List, [], ◌∷◌, ◌++◌, length, Some, None, ◌≢◌, slice_index_or, refl}
+-- A search in rows whose identities rise.
+use Rattle.std.specs.Prelude.{◌≡◌, ℕ, zero, suc, ◌+◌, ◌<◌, ◌≤◌, Bool, true, false, cond, not, List, [], ◌∷◌, ◌++◌, length, Some, None, Ok, Err, Result, ◌≢◌, slice_index_or, refl}
 use Rattle.std.proofs.Common.{sym, ap, subst, ◌∙◌, inl, inr, arith}
 use Rattle.std.specs.List.{AllByRecursion}
 use Rattle.std.specs.Str.{bytes_eq}
@@ -7,7 +7,12 @@ use Rattle.std.proofs.ByRecursion.{All-get_or, All-from_get_or, All-weaker}
 use Rattle.std.proofs.lemmas.Slice.Eq.{bytes_eq-Decides}
 use Rattle.std.proofs.lemmas.Bool.{and_parts, and_from, not-true, cases_eq, cases_lt, cases_Bool}
 use Rattle.std.proofs.lemmas.Bool.Decides.{not_from_Decides}
-use Rattle.train.specs.Octets.{below, zeros}
+use Rattle.std.specs.List.Sorted.{IsNonDecreasingBy, IsBinarySearchResult, IsSearchInRange}
+use Rattle.std.specs.Ordering.{ordering_index}
+use Rattle.std.specs.Result.{result_ok}
+use Rattle.std.specs.declared.cmp.Ordering.{Ordering}
+use Rattle.std.specs.declared.cmp.Ordering.TheVariants.{Less, Equal, Greater}
+use Rattle.train.specs.Octets.{below, ranked, zeros}
 use Rattle.train.specs.Refusals.{keeps}
 use Rattle.train.proofs.Bytes.{nowhere, below_trans, below_strict, below_total}
 use Rattle.fleet.specs.Fleets.{Pairs}
@@ -92,25 +97,50 @@ pub find_no : {A : Type 0} (p : A → Bool) (n : ℕ) (xs : List A) → AllByRec
 find_no p n [] h = refl
 find_no p n (x ∷ xs) h = let e = h.0 in rw e (find_no p (n + 1) xs h.1)
 
--- the halves of a search
+-- how an identity ranks, and the other way round
+ranked_less : (a id : List ℕ) → below a id ≡ true → ranked a id ≡ Less
+ranked_less a id h = let d = below_apart a id h in rw (d, h) refl
+
+rank_of : (a id : List ℕ) (s l : Bool) → bytes_eq a id ≡ s → below a id ≡ l → ranked a id ≡ cond s Equal (cond l Less Greater)
+rank_of a id s l e f = rw (e, f) refl
+
+-- a rank tells one byte string from another
+is_equal : (a id : List ℕ) (s l : Bool) → bytes_eq a id ≡ s → below a id ≡ l → ranked a id ≡ Equal → bytes_eq a id ≡ true
+is_equal a id true l e f h = e
+is_equal a id false true e f h = let k = sym (rank_of a id false true e f) ∙ h in let z : ◌≡◌ {A = ℕ} 0 1 = ap ordering_index k in absurd (omega (arith, z))
+is_equal a id false false e f h = let k = sym (rank_of a id false false e f) ∙ h in let z : ◌≡◌ {A = ℕ} 2 1 = ap ordering_index k in absurd (omega (arith, z))
+
+is_less : (a id : List ℕ) (s l : Bool) → bytes_eq a id ≡ s → below a id ≡ l → ranked a id ≡ Less → below a id ≡ true
+is_less a id s true e f h = f
+is_less a id true false e f h = let k = sym (rank_of a id true false e f) ∙ h in let z : ◌≡◌ {A = ℕ} 1 0 = ap ordering_index k in absurd (omega (arith, z))
+is_less a id false false e f h = let k = sym (rank_of a id false false e f) ∙ h in let z : ◌≡◌ {A = ℕ} 2 0 = ap ordering_index k in absurd (omega (arith, z))
+
+is_greater : (a id : List ℕ) (s l : Bool) → bytes_eq a id ≡ s → below a id ≡ l → ranked a id ≡ Greater → below id a ≡ true
+is_greater a id false false e f h = below_other a id f e
+is_greater a id true l e f h = let k = sym (rank_of a id true l e f) ∙ h in let z : ◌≡◌ {A = ℕ} 1 2 = ap ordering_index k in absurd (omega (arith, z))
+is_greater a id false true e f h = let k = sym (rank_of a id false true e f) ∙ h in let z : ◌≡◌ {A = ℕ} 0 2 = ap ordering_index k in absurd (omega (arith, z))
+
+index_small : (o : Ordering) → ordering_index o ≤ 2
+index_small Less = omega arith
+index_small Equal = omega arith
+index_small Greater = omega arith
+
+-- the rank of one above is no lower
+rank_rises : (a b id : List ℕ) (s l : Bool) → bytes_eq b id ≡ s → below b id ≡ l → below a b ≡ true → ordering_index (ranked a id) ≤ ordering_index (ranked b id)
+rank_rises a b id s true e f h = let z = ap ordering_index (ranked_less a id (below_trans a b id h f)) in omega (arith, z)
+rank_rises a b id true false e f h =
+    let q : b ≡ id = (bytes_eq-Decides b id).0 e in
+    let z = ap ordering_index (ranked_less a id (ap (below a) (sym q) ∙ h)) in
+    omega (arith, z)
+rank_rises a b id false false e f h =
+    let z = ap ordering_index (rank_of b id false false e f) in
+    let y = index_small (ranked a id) in
+    omega (arith, z, y)
+
+-- a search in rows that ascend
 module _ (rs : List (List ℕ)) (id : List ℕ) (e : keeps ascending [] rs ≡ true) where
   pair : (i j : ℕ) → i < j → j < length rs → below (identity_of (slice_index_or rs i [])) (identity_of (slice_index_or rs j [])) ≡ true
   pair i j l h = pair_at Under rs [] i j (ascent [] rs e).pairs l h
-
-  pub half_up : (m : ℕ) → m < length rs → below (identity_of (slice_index_or rs m [])) id ≡ true → (j : ℕ) → j < m + 1 → below (identity_of (slice_index_or rs j [])) id ≡ true
-  half_up m h k j l =
-      elim (cases_eq j m) [
-        | inl q ↦ ap (λ (x : ℕ). below (identity_of (slice_index_or rs x [])) id) q ∙ k
-        | inr q ↦ below_trans (identity_of (slice_index_or rs j [])) (identity_of (slice_index_or rs m [])) id (pair j m (omega arith) h) k
-      ]
-
-  pub half_down : (m : ℕ) → m < length rs → below (identity_of (slice_index_or rs m [])) id ≡ false → is_at id (slice_index_or rs m []) ≡ false → (j : ℕ) → m ≤ j → j < length rs → below id (identity_of (slice_index_or rs j [])) ≡ true
-  half_down m h k s j l b =
-      let g = below_other (identity_of (slice_index_or rs m [])) id k s in
-      elim (cases_eq j m) [
-        | inl q ↦ ap (λ (x : ℕ). below id (identity_of (slice_index_or rs x []))) q ∙ g
-        | inr q ↦ below_trans id (identity_of (slice_index_or rs m [])) (identity_of (slice_index_or rs j [])) g (pair m j (omega arith) b)
-      ]
 
   pub half_hit : (m : ℕ) → m < length rs → is_at id (slice_index_or rs m []) ≡ true → place_of id 0 rs ≡ Some m
   half_hit m h s =
@@ -127,3 +157,17 @@ module _ (rs : List (List ℕ)) (id : List ℕ) (e : keeps ascending [] rs ≡ t
         | inl a ↦ below_apart (identity_of (slice_index_or rs j [])) id (f j a)
         | inr a ↦ above_apart id (identity_of (slice_index_or rs j [])) (g j (omega arith) l)
       ]))
+
+  rises_on : IsNonDecreasingBy (λ row. ordering_index (ranked (identity_of row) id)) rs
+  rises_on i j d h l =
+      elim (cases_eq i j) [
+        | inl k ↦ let z = ap (λ (n : ℕ). ordering_index (ranked (identity_of (slice_index_or rs n d)) id)) k in omega (arith, z)
+        | inr k ↦ rank_rises (identity_of (slice_index_or rs i d)) (identity_of (slice_index_or rs j d)) id _ _ refl refl (pair_at Under rs d i j (ascent [] rs e).pairs (omega arith) l)
+      ]
+
+  pub searched : (r : Result ℕ ℕ) → IsSearchInRange r (length rs) → IsBinarySearchResult (λ row. ranked (identity_of row) id) rs r → result_ok r ≡ place_of id 0 rs
+  searched (Ok i) bound h = sym (half_hit i bound (is_equal (identity_of (slice_index_or rs i [])) id _ _ refl refl (h [])))
+  searched (Err i) bound h =
+      let p = h rises_on in
+      sym (half_none i i (omega arith) (λ j l. is_less (identity_of (slice_index_or rs j [])) id _ _ refl refl (p.0 j [] (omega arith) l))
+      (λ j a b. is_greater (identity_of (slice_index_or rs j [])) id _ _ refl refl (p.1 j [] a b)))

@@ -1,17 +1,17 @@
 -- The entries of a book as rows of bytes, and the checks over them.
-use Rattle.std.specs.Prelude.{ℕ, zero, suc, ◌+◌, ◌*◌, Bool, not, ◌&&◌, ◌||◌, List, [], ◌∷◌, take, drop, ◌==◌, nat_le, slice_index}
+use Rattle.std.specs.Prelude.{ℕ, ◌+◌, ◌*◌, Bool, not, ◌&&◌, ◌||◌, List, [], ◌∷◌, take, drop, ◌==◌, nat_le, slice_index}
+use Rattle.std.specs.Simd.{first_chunks}
 use Rattle.std.specs.Str.{bytes_eq}
 use Rattle.train.specs.declared.refusal.Place.{Place}
 use Rattle.train.specs.declared.refusal.Place.TheVariants.{At, InLine}
 use Rattle.train.specs.declared.refusal.Reason.TheVariants.{IdentityOrder, ZeroCounter, EntryCount, VehicleSum, NameForm, UnknownFacing, Repeated}
+use Rattle.train.specs.Identities as identities
 use Rattle.train.specs.Names.{well_formed}
-use Rattle.train.specs.Octets.{below, zeros}
 use Rattle.train.specs.Refusals.{Check, Rule, must, each, alone, fresh, by}
 
 -- the first n rows of w bytes
 abbrev pub rows : ℕ → ℕ → List ℕ → List (List ℕ)
-rows w zero bs = []
-rows w (suc n) bs = take w bs ∷ rows w n (drop w bs)
+rows w n bs = first_chunks w n bs
 
 -- an entry of a consist: identity, counter, vehicle count
 abbrev pub identity_of : List ℕ → List ℕ
@@ -32,13 +32,11 @@ facing_byte row = slice_index row 16
 
 -- the identity of the last of these rows; before the first row no bytes, which stand below every identity
 abbrev pub last_identity : List (List ℕ) → List ℕ
-last_identity [] = []
-last_identity (x ∷ []) = identity_of x
-last_identity (x ∷ y ∷ ys) = last_identity (y ∷ ys)
+last_identity = identities.last_identity identity_of
 
 -- an identity is not zero, and above the one before
 abbrev pub rises : List ℕ → List ℕ → Bool
-rises prior id = not (bytes_eq id zeros) && below prior id
+rises = identities.rises
 
 abbrev pub ascending : Rule (List ℕ)
 ascending before row = rises (last_identity before) (identity_of row)

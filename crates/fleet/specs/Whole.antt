@@ -1,6 +1,6 @@
 -- The bytes that are accepted are the books of fleets, and are read as those.
 use Rattle.std.specs.Prelude.{◌≡◌, ℕ, ◌+◌, ◌*◌, ◌<◌, ◌≤◌, true, false, List, [], ◌∷◌, ◌++◌, map, length, drop, is_some, Some, None, Option, ◌==◌, nat_le, slice_index, slice_index_or, refl}
-use Rattle.std.proofs.Common.{sym, ap, ap₂, subst, ◌∙◌, arith, drop-cons}
+use Rattle.std.proofs.Common.{sym, ap, ap₂, ◌∙◌, arith, drop-cons}
 use Rattle.std.specs.List.{AllByRecursion}
 use Rattle.std.specs.Str.{bytes_eq}
 use Rattle.std.proofs.ByRecursion.{All-take, All-drop, All-get_or}
@@ -163,16 +163,16 @@ both bs e =
     (head_told bs t.0 u.0 v.0, v.1)
 
 -- the same of the parts as they were cut
-pub parts_pass : (bs entries : List ℕ) (count : ℕ) (table : List ℕ) (total : ℕ) → Cut bs entries count table total → refusal Book (book_checks bs) ≡ None
-    → refusal Book (entry_checks (rows 21 count entries) total (rows 17 total table)) ≡ None
-parts_pass bs entries count table total p e =
-    ap₂ (λ (es vs : List (List ℕ)). refusal Book (entry_checks es total vs)) (ap₂ (rows 21) p.count_is p.entries_are) (ap₂ (rows 17) p.total_is p.table_is)
-    ∙ ap (λ (n : ℕ). refusal Book (entry_checks (consist_rows bs) n (vehicle_rows bs))) p.total_is
+pub parts_pass : (bs : List ℕ) (consists vehicles : List (List ℕ)) → Cut bs consists vehicles → refusal Book (book_checks bs) ≡ None
+    → refusal Book (entry_checks consists (length vehicles) vehicles) ≡ None
+parts_pass bs consists vehicles p e =
+    ap₂ (λ (es vs : List (List ℕ)). refusal Book (entry_checks es (length vs) vs)) p.consists_are p.vehicles_are
+    ∙ ap (λ (n : ℕ). refusal Book (entry_checks (consist_rows bs) n (vehicle_rows bs))) (length-rows 17 (total_of bs) (table_of bs))
     ∙ (both bs e).1
 
-pub parts_bytes : (bs entries : List ℕ) (count : ℕ) (table : List ℕ) (total : ℕ) → Cut bs entries count table total → Bytes bs → bytes_in entries ≡ true
-parts_bytes bs entries count table total p y =
-    bytes_told entries (subst Bytes (sym p.entries_are) (All-take (λ b. b < 256) (count_of bs * 21) (drop 4 bs) (All-drop (λ b. b < 256) 4 bs y)))
+pub parts_bytes : (bs : List ℕ) → Bytes bs → bytes_in (entries_of bs) ≡ true
+parts_bytes bs y =
+    bytes_told (entries_of bs) (All-take (λ b. b < 256) (count_of bs * 21) (drop 4 bs) (All-drop (λ b. b < 256) 4 bs y))
 
 -- what is accepted is the book of the fleet that it is read as
 pub taken : (bs : List ℕ) → Bytes bs → refusal Book (book_checks bs) ≡ None → IsBook bs (fleet_of bs)

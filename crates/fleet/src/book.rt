@@ -1,10 +1,12 @@
-// A book: the lent bytes of a fleet, and where its parts stand in them.
+// A book: the lent bytes of a fleet, and the entries that stand in them.
 ghost use Rattle.std.specs.Prelude.{◌≡◌, ◌*◌, ◌≤◌, true, false, length, is_some};
 ghost use Rattle.train.specs.Refusals.{refusal};
 ghost use Rattle.train.specs.declared.refusal.Part.TheVariants.{Book as InBook};
-ghost use Rattle.fleet.specs.Rows.{rows, sizes, entry_checks};
-ghost use Rattle.fleet.specs.Books.{count_of, entries_of, total_of, table_of};
+ghost use Rattle.fleet.specs.Rows.{sizes, entry_checks};
+ghost use Rattle.fleet.specs.Books.{count_of, entries_of, total_of, table_of, consist_rows, vehicle_rows};
 ghost use Rattle.fleet.specs.Bytes.{bytes_in};
+
+use train::rows::{ConsistRow, FacedRow};
 
 pub mod calls;
 mod consists;
@@ -13,21 +15,17 @@ mod consists;
 #[derive(Drop)]
 pub struct Book<'a> {
     bytes: &'a [u8],
-    entries: &'a [u8],
-    count: usize,
-    table: &'a [u8],
-    total: usize,
-    ghost counted: { count ≡ count_of bytes.now },
-    ghost totalled: { total ≡ total_of bytes.now },
-    ghost cut: { entries.now ≡ entries_of bytes.now },
-    ghost rest: { table.now ≡ table_of bytes.now },
-    ghost long: { length entries.now ≡ 21 * count },
-    ghost tall: { length table.now ≡ 17 * total },
-    ghost few: { count ≤ 200 },
-    ghost small: { total ≤ 2000 },
-    ghost sum: { sizes (rows 21 count entries.now) ≡ total },
-    ghost sound: { is_some (refusal InBook (entry_checks (rows 21 count entries.now) total (rows 17 total table.now))) ≡ false },
-    ghost octets: { bytes_in entries.now ≡ true },
+    consists: &'a [ConsistRow],
+    vehicles: &'a [FacedRow],
+    ghost parted: { consists.now ≡ consist_rows bytes.now },
+    ghost listed: { vehicles.now ≡ vehicle_rows bytes.now },
+    ghost long: { length (entries_of bytes.now) ≡ 21 * count_of bytes.now },
+    ghost tall: { length (table_of bytes.now) ≡ 17 * total_of bytes.now },
+    ghost few: { length consists.now ≤ 200 },
+    ghost small: { length vehicles.now ≤ 2000 },
+    ghost sum: { sizes consists.now ≡ length vehicles.now },
+    ghost sound: { is_some (refusal InBook (entry_checks consists.now (length vehicles.now) vehicles.now)) ≡ false },
+    ghost octets: { bytes_in (entries_of bytes.now) ≡ true },
 }
 
 /// The bytes of a book that hold a name, and where they begin in it, counted from 0.

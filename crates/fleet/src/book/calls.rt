@@ -7,10 +7,10 @@ ghost use Rattle.fleet.specs.Held.{lent, held, HandsOut};
 ghost use Rattle.fleet.specs.BookMeantLemmas.{book_lawful};
 
 use super::*;
-use crate::parts::{Parts, checked};
+use crate::parts::{CONSIST, Parts, VEHICLE, checked, vehicles_in};
 use crate::questions::{Fleet, Found, Meant};
-use crate::rows::*;
-use crate::seek::*;
+use crate::rows::{counter_of, size_of};
+use crate::seek::seek;
 use train::entries::Vehicle;
 use train::identity::Identity;
 use train::refusal::Refusal;
@@ -22,10 +22,8 @@ impl<'a> Book<'a> {
     {
         Book {
             bytes: &[],
-            entries: &[],
-            count: 0,
-            table: &[],
-            total: 0,
+            consists: &[],
+            vehicles: &[],
         }
     }
 
@@ -36,18 +34,11 @@ impl<'a> Book<'a> {
         ensures after { MatchResult result (λ _. lent self.new ≡ bytes.now) (λ _. self.new ≡ self.old) }
         ensures exactly { MatchResult result (λ _. Opened bytes.now (held self.new)) (λ _. NoBook bytes.now) }
     {
-        let Parts {
-            entries,
-            count,
-            table,
-            total,
-        } = checked(bytes)?;
+        let Parts { consists, vehicles } = checked(bytes)?;
         *self = Book {
             bytes,
-            entries,
-            count,
-            table,
-            total,
+            consists,
+            vehicles,
         };
         Ok(())
     }
@@ -56,15 +47,13 @@ impl<'a> Book<'a> {
     pub fn name(&self, k: usize) -> Option<NamePart<'a>>
         ensures { MatchOption result (name_at (held self.now) k ≡ None) (λ part. HandsOut self.now k part) }
     {
-        if k == 0 {
-            return None;
-        }
-        if k > self.total {
-            return None;
-        }
-        let bytes = name_of(vehicle_row(self.table, self.total, k - 1));
-        let offset = 6 + CONSIST * self.count + VEHICLE * (k - 1);
-        Some(NamePart { offset, bytes })
+        let at = k.checked_sub(1)?;
+        let row = self.vehicles.get(at)?;
+        let offset = 6 + CONSIST * self.consists.len() + VEHICLE * at;
+        Some(NamePart {
+            offset,
+            bytes: &row[..16],
+        })
     }
 }
 
@@ -76,8 +65,7 @@ impl Meant for Book<'_> {
 
 impl Fleet for Book<'_> {
     fn look_up(&self, identity: &Identity) -> Option<Found> {
-        let i = seek(self.entries, self.count, &identity.bytes)?;
-        let row = consist_row(self.entries, self.count, i);
+        let row = &self.consists[seek(self.consists, &identity.bytes)?];
         Some(Found {
             counter: counter_of(row),
             count: size_of(row),
@@ -85,15 +73,11 @@ impl Fleet for Book<'_> {
     }
 
     fn vehicle(&self, identity: &Identity, k: u8) -> Option<Vehicle> {
-        let i = seek(self.entries, self.count, &identity.bytes)?;
-        let size = size_of(consist_row(self.entries, self.count, i));
-        if k == 0 {
+        let i = seek(self.consists, &identity.bytes)?;
+        if k == 0 || k > size_of(&self.consists[i]) {
             return None;
         }
-        if k > size {
-            return None;
-        }
-        let at = vehicles_in(self.entries, self.count, i) + (k as usize - 1);
-        Some(vehicle_of(vehicle_row(self.table, self.total, at)))
+        let at = vehicles_in(&self.consists[..i]) + (usize::from(k) - 1);
+        Some(Vehicle::from(self.vehicles[at]))
     }
 }

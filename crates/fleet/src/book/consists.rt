@@ -4,7 +4,7 @@ ghost use Rattle.fleet.specs.Consists.{identity_at};
 ghost use Rattle.fleet.specs.Held.{held};
 
 use super::*;
-use crate::rows::*;
+use crate::rows::identity_of;
 use train::identity::Identity;
 
 impl Book<'_> {
@@ -12,14 +12,7 @@ impl Book<'_> {
     pub fn identity(&self, k: usize) -> Option<Identity>
         ensures { result ≡ identity_at (held self.now) k }
     {
-        if k == 0 {
-            return None;
-        }
-        if k > self.count {
-            return None;
-        }
-        let mut bytes = [0; 16];
-        bytes.copy_from_slice(identity_of(consist_row(self.entries, self.count, k - 1)));
-        Some(Identity { bytes })
+        let row = self.consists.get(k.checked_sub(1)?)?;
+        Some(identity_of(row))
     }
 }

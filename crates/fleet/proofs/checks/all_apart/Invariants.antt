@@ -1,11 +1,11 @@
-use Rattle.std.proofs.Common.{◌≡◌, ◌+◌, drop}
+use Rattle.std.proofs.Common.{◌≡◌, ◌≤◌, ◌+◌, length, drop}
 use Rattle.train.specs.declared.refusal.Part.TheVariants.{Book}
 use Rattle.train.specs.Refusals.{refusal}
-use Rattle.fleet.specs.Rows.{rows, sizes, apart_checks}
+use Rattle.fleet.specs.Rows.{sizes, apart_checks}
 use Rattle.fleet.proofs.checks.all_apart.Given as goal
 
-abbrev pub invariant-loop-i : goal.invariant-loop-i
-invariant-loop-i l =
-    (refusal Book (apart_checks 0 (rows 21 l.count l.entries) (rows 17 l.total l.table))
-    ≡ refusal Book (apart_checks l.from (drop l.i (rows 21 l.count l.entries)) (drop l.from (rows 17 l.total l.table))))
-    × (l.from + sizes (drop l.i (rows 21 l.count l.entries)) ≡ l.total)
+abbrev pub invariant-loop-row : goal.invariant-loop-row
+invariant-loop-row l =
+    (refusal Book (apart_checks 0 l.consists l.vehicles) ≡ refusal Book (apart_checks l.from (drop l.row-index l.consists) l.rest))
+    × (sizes (drop l.row-index l.consists) ≡ length l.rest)
+    × (l.from + length l.rest ≤ 2000)
