@@ -29,3 +29,4 @@ pub mod Told
 pub mod Sides
 pub mod Seen
 pub mod Likenesses
+pub mod Places

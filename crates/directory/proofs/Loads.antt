@@ -1,6 +1,7 @@
 -- Laying out the vehicles of a consist and of a formation.
-use Rattle.std.proofs.Common.{◌≡◌, ℕ, zero, suc, ◌+◌, ◌-◌, ◌<◌, ◌≤◌, List, [], ◌∷◌, ◌++◌, reverse, length, get_or, take, drop, set, is_some, Some, None, Option, sym, refl, ap, ◌∙◌, ap₂, append_assoc, add-one, arith}
+use Rattle.std.proofs.Common.{◌≡◌, ℕ, zero, suc, sum_by, ◌+◌, ◌-◌, ◌<◌, ◌≤◌, List, [], ◌∷◌, ◌++◌, reverse, length, get_or, take, drop, set, is_some, Some, None, Option, sym, refl, ap, ◌∙◌, ap₂, append_assoc, add-one, arith}
 use Rattle.std.specs.List.{flat_map, slice_get}
+use Rattle.std.proofs.lemmas.List.Concat.{length-flat_map}
 use Rattle.std.proofs.lemmas.List.{take_more, take_all, drop_more, length-append, length-map, length-reverse, length-take-le, set-append_right, append-nil, take_at, drop_at, take-append-drop}
 use Rattle.train.specs.declared.identity.Identity.{Identity}
 use Rattle.train.specs.declared.entries.Coupled.{Coupled}
@@ -96,15 +97,8 @@ pub loading_end : (x : Identity) (claim : Option Claim) (vs : List Vehicle) (k :
 loading_end x claim vs k before now l room e = loading_all x claim vs k before now l room (nth_none vs k e)
 
 -- the length of the train, entry by entry
-pub length_more : (m : Meaning) (claims : Identity → Option Claim) (es : List Coupled) (i : ℕ) (e d : Coupled) (n total : ℕ) → e ≡ get_or es i d → i < length es
-    → n ≡ length (vehicles_of (m e.identity)) → total + length (train m claims (drop i es)) ≡ length (train m claims es)
-    → total + n + length (train m claims (drop (i + 1) es)) ≡ length (train m claims es)
-length_more m claims es i e d n total is h len inv =
-    let s = length-stretch m claims e in
-    let rest = train m claims (drop (i + 1) es) in
-    let cut : length (train m claims (drop i es)) ≡ length (stretch m claims e) + length rest =
-    ap (λ xs. length (train m claims xs)) (drop_more es i d h ∙ ap (λ x. x ∷ drop (i + 1) es) (sym is)) ∙ length-append (stretch m claims e) rest in
-    omega (arith, inv, cut, s, len)
+pub length-train : (m : Meaning) (claims : Identity → Option Claim) (es : List Coupled) → length (train m claims es) ≡ sum_by (λ e. length (vehicles_of (m e.identity))) es
+length-train m claims es = length-flat_map (stretch m claims) es ∙ ap (λ (f : Coupled → ℕ). sum_by f es) (λ i e. length-stretch m claims e i)
 
 -- what the fleet's questions answer
 pub asked : (o : Option Consist) (k : ℕ) → vehicle_in o (k + 1) ≡ slice_get (vehicles_of o) k

@@ -1,5 +1,6 @@
 -- The checks of composing, in order, and its outcome.
 use Rattle.std.specs.Prelude.{ℕ, ◌-◌, Bool, true, false, not, ◌&&◌, ◌||◌, List, [], ◌∷◌, ◌++◌, length, is_some, Some, None, filter, Option, nat_le, slice_index_or}
+use Rattle.std.specs.List.{list_any}
 use Rattle.std.specs.Str.{bytes_eq}
 use Rattle.train.specs.declared.identity.Identity.{Identity}
 use Rattle.train.specs.declared.name.Name.{Name}
@@ -63,8 +64,7 @@ inserted c = bytes_eq c.consist.bytes zeros
 
 -- a car of x is among these
 abbrev pub car_of : Identity → List Car → Bool
-car_of x [] = false
-car_of x (c ∷ cs) = same_identity x c.consist || car_of x cs
+car_of x cs = list_any (λ c. same_identity x c.consist) cs
 
 -- among these an inserted car stands before a car of x
 abbrev pub split : Identity → List Car → Bool

@@ -1,6 +1,7 @@
 // The vehicles of a train as they stand along it.
 ghost use Rattle.std.specs.Prelude.{◌≡◌};
 ghost use Rattle.directory.specs.Cars.{turned_car};
+ghost use Rattle.directory.specs.Operation.{strange};
 ghost use Rattle.std.proofs.Common.{rules};
 
 use train::facing::Facing;
@@ -18,6 +19,21 @@ pub struct Car {
     pub name: Name,
     pub facing: Facing,
     pub lead: Facing,
+}
+
+impl Car {
+    /// An inserted vehicle: of no consist of the train, and nothing known of its facing.
+    pub(crate) fn inserted(name: Name) -> Car
+        ensures { result ≡ strange name }
+    {
+        Car {
+            consist: Identity { bytes: [0; 16] },
+            stance: Facing::NotKnown,
+            name,
+            facing: Facing::NotKnown,
+            lead: Facing::NotKnown,
+        }
+    }
 }
 
 impl Turn for Car {

@@ -12,33 +12,22 @@ use crate::loading::count_of;
 use bench::claims::Claim;
 use bench::state::Bench;
 use fleet::questions::Fleet;
+use train::checks::each_passes;
 use train::facing::Facing;
 use train::identity::Identity;
 use train::name::Name;
 use train::octets;
 use train::refusal::{Part, Reason, Refusal};
 
-/// 1 where a claim stands.
-fn number_of(claim: Option<Claim>) -> usize
-    ensures value { result ≡ (if is_some claim then 1 else 0) }
-    ensures few { result ≤ 1 }
-{
-    match claim {
-        Some(_) => 1,
-        None => 0,
-    }
-}
-
 /// How many claims stand.
 pub(crate) fn claims_standing(bench: &Bench) -> usize
     ensures { result ≡ length (leads_of (shown bench.now).claims (shown bench.now).formation) }
 {
     let formation = bench.formation();
-    let mut count = 0;
-    for entry in formation {
-        count += number_of(bench.claim_of(&entry.identity));
-    }
-    count
+    formation
+        .iter()
+        .filter(|entry| bench.claim_of(&entry.identity).is_some())
+        .count()
 }
 
 /// Whether the claimed number is one of a consist's vehicles.
@@ -55,14 +44,15 @@ fn in_reach(claim: Option<Claim>, count: usize) -> bool
 pub(crate) fn claims_in_reach<F: Fleet>(fleet: &F, bench: &Bench) -> Result<(), Refusal>
     ensures { refusal_of result ≡ breach Composing (each (alone (in_reach (F.Meant.meaning fleet.now) (shown bench.now).claims)) ClaimBeyond (shown bench.now).formation) }
 {
-    let formation = bench.formation();
-    for (i, entry) in formation.iter().enumerate() {
-        let claim = bench.claim_of(&entry.identity);
-        if !in_reach(claim, count_of(fleet, &entry.identity)) {
-            return Err(Refusal::at(Part::Composing, Reason::ClaimBeyond, i + 1));
-        }
-    }
-    Ok(())
+    each_passes(
+        Part::Composing,
+        Reason::ClaimBeyond,
+        bench.formation(),
+        |entry| {
+            let claim = bench.claim_of(&entry.identity);
+            in_reach(claim, count_of(fleet, &entry.identity))
+        },
+    )
 }
 
 /// The train orientation.
@@ -71,9 +61,8 @@ pub(crate) fn orientation(bench: &Bench) -> Facing
 {
     let formation = bench.formation();
     for entry in formation {
-        match bench.claim_of(&entry.identity) {
-            Some(claim) => return claim.direction.within(entry.facing),
-            None => {}
+        if let Some(claim) = bench.claim_of(&entry.identity) {
+            return claim.direction.within(entry.facing);
         }
     }
     Facing::Direct
@@ -90,12 +79,7 @@ pub(crate) fn is_inserted(car: &Car) -> bool
 fn has_car_of(identity: &Identity, cars: &[Car]) -> bool
     ensures { result ≡ car_of identity.now cars.now }
 {
-    for car in cars {
-        if *identity == car.consist {
-            return true;
-        }
-    }
-    false
+    cars.iter().any(|car| *identity == car.consist)
 }
 
 /// Whether this is an inserted car, with a car of the consist behind it.

@@ -63,10 +63,8 @@ fn lay_out_head(bench: &Bench, train: &[Car], head: &mut [Car])
 {
     let count = train.len();
     head[0..count].copy_from_slice(train);
-    match orientation(bench) {
-        Facing::Inverse => turn_all(&mut head[0..count]),
-        Facing::Direct => {}
-        Facing::NotKnown => {}
+    if orientation(bench) == Facing::Inverse {
+        turn_all(&mut head[0..count]);
     }
 }
 

@@ -15,6 +15,7 @@ use crate::cars::Car;
 use bench::claims::Claim;
 use bench::state::Bench;
 use fleet::questions::Fleet;
+use train::checks::each_passes;
 use train::entries::{Coupled, Vehicle};
 use train::facing::Facing;
 use train::identity::Identity;
@@ -29,14 +30,8 @@ fn lead_mark(claim: Option<Claim>, k: u8) -> Facing
     ensures { result ≡ mark claim k }
 {
     match claim {
-        Some(claim) => {
-            if claim.vehicle == k {
-                claim.direction
-            } else {
-                Facing::NotKnown
-            }
-        }
-        None => Facing::NotKnown,
+        Some(claim) if claim.vehicle == k => claim.direction,
+        _ => Facing::NotKnown,
     }
 }
 
@@ -71,12 +66,9 @@ fn load_consist<F: Fleet>(
 pub(crate) fn consists_present<F: Fleet>(fleet: &F, formation: &[Coupled]) -> Result<(), Refusal>
     ensures { refusal_of result ≡ breach Composing (each (alone (has (F.Meant.meaning fleet.now))) ConsistAbsent formation.now) }
 {
-    for (i, entry) in formation.iter().enumerate() {
-        if fleet.look_up(&entry.identity).is_none() {
-            return Err(Refusal::at(Part::Composing, Reason::ConsistAbsent, i + 1));
-        }
-    }
-    Ok(())
+    each_passes(Part::Composing, Reason::ConsistAbsent, formation, |entry| {
+        fleet.look_up(&entry.identity).is_some()
+    })
 }
 
 /// How many vehicles a consist has; 0 where the fleet lacks it.
@@ -84,10 +76,9 @@ pub(crate) fn count_of<F: Fleet>(fleet: &F, identity: &Identity) -> usize
     ensures value { result ≡ length (vehicles_of (F.Meant.meaning fleet.now identity.now)) }
     ensures few { result ≤ 255 }
 {
-    match fleet.look_up(identity) {
-        Some(found) => found.count as usize,
-        None => 0,
-    }
+    fleet
+        .look_up(identity)
+        .map_or(0, |found| usize::from(found.count))
 }
 
 /// How many vehicles the formation has, whatever is claimed.
@@ -95,11 +86,10 @@ pub(crate) fn train_length<F: Fleet>(fleet: &F, formation: &[Coupled]) -> usize
     requires { length formation.now ≤ 63 }
     ensures { (claims : Id → Maybe Claimed) → result ≡ length (train_of (F.Meant.meaning fleet.now) claims formation.now) }
 {
-    let mut total = 0usize;
-    for entry in formation {
-        total += count_of(fleet, &entry.identity);
-    }
-    total
+    formation
+        .iter()
+        .map(|entry| count_of(fleet, &entry.identity))
+        .sum()
 }
 
 /// Lays out the vehicles of one entry of the formation, in train order.
@@ -109,10 +99,8 @@ fn load_entry<F: Fleet>(fleet: &F, bench: &Bench, entry: &Coupled, cars: &mut [C
 {
     let claim = bench.claim_of(&entry.identity);
     let count = load_consist(fleet, &entry.identity, claim, cars);
-    match entry.facing {
-        Facing::Inverse => turn_all(&mut cars[0..count]),
-        Facing::Direct => {}
-        Facing::NotKnown => {}
+    if entry.facing == Facing::Inverse {
+        turn_all(&mut cars[0..count]);
     }
     count
 }

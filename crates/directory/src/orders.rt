@@ -33,12 +33,13 @@ pub(crate) fn consist_number(identity: &Identity, formation: &[Coupled]) -> usiz
     ensures value { result ≡ place (λ e. same_identity identity.now e.identity) 1 formation.now }
     ensures few { result ≤ length formation.now }
 {
-    for (i, entry) in formation.iter().enumerate() {
-        if *identity == entry.identity {
-            return i + 1;
-        }
+    match formation
+        .iter()
+        .position(|entry| *identity == entry.identity)
+    {
+        Some(at) => at + 1,
+        None => 0,
     }
-    0
 }
 
 /// The train number of a vehicle; 0 where no vehicle has the name.
@@ -46,12 +47,10 @@ pub(crate) fn vehicle_number(name: &Name, train: &[Car]) -> usize
     ensures value { result ≡ place (λ d. same_name name.now d.name) 1 train.now }
     ensures few { result ≤ length train.now }
 {
-    for (i, car) in train.iter().enumerate() {
-        if *name == car.name {
-            return i + 1;
-        }
+    match train.iter().position(|car| *name == car.name) {
+        Some(at) => at + 1,
+        None => 0,
     }
-    0
 }
 
 /// No vehicle has the name of one before it; the place is the second's consist.
@@ -71,12 +70,7 @@ pub(crate) fn names_apart(formation: &[Coupled], train: &[Car]) -> Result<(), Re
 fn has_name(name: &Name, train: &[Car]) -> bool
     ensures { result ≡ among same_name name.now (names_of train.now) }
 {
-    for car in train {
-        if *name == car.name {
-            return true;
-        }
-    }
-    false
+    train.iter().any(|car| *name == car.name)
 }
 
 /// Whether this is the name of the vehicle at a place.
@@ -124,17 +118,9 @@ pub(crate) fn in_order(confirmed: &[Name], head: &[Car]) -> bool
 pub(crate) fn pick(train: &[Car], name: &Name) -> Car
     ensures { result ≡ pick_of train.now name.now }
 {
-    for car in train {
-        if *name == car.name {
-            return *car;
-        }
-    }
-    Car {
-        consist: Identity { bytes: [0; 16] },
-        stance: Facing::NotKnown,
-        name: *name,
-        facing: Facing::NotKnown,
-        lead: Facing::NotKnown,
+    match train.iter().find(|car| *name == car.name) {
+        Some(car) => *car,
+        None => Car::inserted(*name),
     }
 }
 

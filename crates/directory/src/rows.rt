@@ -78,11 +78,7 @@ pub(crate) struct VehicleRow {
 fn lead_byte(lead: Facing) -> u8
     ensures { result ≡ lead_byte lead }
 {
-    match lead {
-        Facing::NotKnown => 1,
-        Facing::Direct => 2,
-        Facing::Inverse => 2,
-    }
+    if lead.is_known() { 2 } else { 1 }
 }
 
 impl Row for VehicleRow {

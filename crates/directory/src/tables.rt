@@ -18,10 +18,7 @@ use train::octets;
 fn counter_of<F: Fleet>(fleet: &F, identity: &Identity) -> u32
     ensures { result ≡ counter_of (F.Meant.meaning fleet.now identity.now) }
 {
-    match fleet.look_up(identity) {
-        Some(found) => found.counter,
-        None => 0,
-    }
+    fleet.look_up(identity).map_or(0, |found| found.counter)
 }
 
 /// The rows of the train consists, along the formation.

@@ -15,7 +15,7 @@ returns-in-Some c =
 pub loop-entry-preserved : goal.loop-entry-preserved
 loop-entry-preserved c =
     c.loop-entry.invariant
-    ∙ orient_past (shown c.args.bench.now).claims c.formation-formation.result.now c.loop-entry.entry-index _ _ refl c.loop-entry-test.true (sym c.in-None.ensures)
+    ∙ orient_past (shown c.args.bench.now).claims c.formation-formation.result.now c.loop-entry.entry-index _ _ refl c.loop-entry-test.true (sym c.in_default.ensures)
 
 pub returns : goal.returns
 returns c =

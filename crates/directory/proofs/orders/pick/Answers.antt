@@ -1,17 +1,23 @@
-use Rattle.std.proofs.Common.{sym, refl, ◌∙◌}
-use Rattle.std.proofs.lemmas.List.{at_drop_all}
-use Rattle.directory.specs.Operation.{pick}
-use Rattle.directory.proofs.Walks.{pick_past, pick_here}
+use Rattle.std.proofs.Common.{rules, tests, ◌≡◌, Option, Some, sym, ap, ◌∙◌}
+use Rattle.std.proofs.lemmas.Iterator.{YieldsList-from_slice}
+use Rattle.std.proofs.lemmas.Iterator.Search.{find_from_yields_List}
+use Rattle.std.specs.List.{find}
+use Rattle.std.specs.Option.{option_map}
+use Rattle.train.specs.Identities.{same_name}
+use Rattle.directory.proofs.Places.{found_or, pick_is}
 use Rattle.directory.proofs.orders.pick.Goals as goal
 
-pub returns-then-eq : goal.returns-then-eq
-returns-then-eq c =
-    sym (c.loop-car.invariant ∙ pick_here c.args.name.now c.args.train.now c.loop-car.car-index _ _ refl c.loop-car-test.true c.if-eq.ensures)
+pub returns-in-Some : goal.returns-in-Some
+returns-in-Some c =
+    let n = c.args.name.now in
+    ap (found_or n) (ap (option_map (λ x. x.now)) (sym c.in-Some.is)
+    ∙ find_from_yields_List (λ d. same_name n d.name) _ _ c.find.result c.find.ensures.ran (YieldsList-from_slice c.args.train.now (cc)) (λ x b q k. search (rules, tests)))
+    ∙ pick_is n c.args.train.now
 
-pub loop-car-preserved : goal.loop-car-preserved
-loop-car-preserved c =
-    c.loop-car.invariant ∙ pick_past c.args.name.now c.args.train.now c.loop-car.car-index _ _ refl c.loop-car-test.true c.if-eq.ensures
-
-pub returns : goal.returns
-returns c =
-    sym (c.loop-car.invariant ∙ at_drop_all (λ cs. pick cs c.args.name.now) c.args.train.now c.loop-car.car-index c.loop-car-test.false)
+pub returns-in-None : goal.returns-in-None
+returns-in-None c =
+    let n = c.args.name.now in
+    c.inserted.ensures
+    ∙ ap (found_or n) (ap (option_map (λ x. x.now)) (sym c.in-None.is)
+    ∙ find_from_yields_List (λ d. same_name n d.name) _ _ c.find.result c.find.ensures.ran (YieldsList-from_slice c.args.train.now (cc)) (λ x b q k. search (rules, tests)))
+    ∙ pick_is n c.args.train.now

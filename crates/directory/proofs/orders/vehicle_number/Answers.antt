@@ -1,28 +1,18 @@
-use Rattle.std.proofs.Common.{◌+◌, Bool, sym, refl, ◌∙◌, arith}
-use Rattle.std.proofs.lemmas.List.{at_drop_all}
+use Rattle.std.proofs.Common.{rules, tests, sym, ap, ◌∙◌}
+use Rattle.std.proofs.lemmas.Iterator.{YieldsList-from_slice}
+use Rattle.std.proofs.lemmas.Iterator.Search.{position_from_yields_List}
 use Rattle.train.specs.Identities.{same_name}
-use Rattle.directory.specs.declared.cars.Car.{Car}
-use Rattle.directory.specs.Sections.{place}
-use Rattle.directory.proofs.Walks.{place_past, place_here}
+use Rattle.directory.proofs.Places.{numbered, numbered-position}
 use Rattle.directory.proofs.orders.vehicle_number.Goals as goal
 
-pub returns-then-eq : goal.returns-then-eq
-returns-then-eq c =
-    let test : Car → Bool = λ d. same_name c.args.name.now d.name in
-    record {
-      value = sym (c.loop-i.invariant ∙ place_here test c.args.train.now c.loop-i.i (c.loop-i.i + 1) _ _ refl c.loop-i-test.true c.if-eq.ensures);
-      few = omega arith;
-    }
+pub returns-in-Some-clause-value : goal.returns-in-Some-clause-value
+returns-in-Some-clause-value c =
+    ap numbered (sym c.in-Some.is
+    ∙ position_from_yields_List (λ e. same_name c.args.name.now e.name) _ _ c.position.result c.position.ensures.ran (YieldsList-from_slice c.args.train.now (cc)) (λ x b q k. search (rules, tests)))
+    ∙ numbered-position (λ e. same_name c.args.name.now e.name) c.args.train.now
 
-pub loop-i-preserved : goal.loop-i-preserved
-loop-i-preserved c =
-    let test : Car → Bool = λ d. same_name c.args.name.now d.name in
-    c.loop-i.invariant ∙ place_past test c.args.train.now c.loop-i.i (c.loop-i.i + 1) _ _ refl c.loop-i-test.true c.if-eq.ensures
-
-pub returns : goal.returns
-returns c =
-    let test : Car → Bool = λ d. same_name c.args.name.now d.name in
-    record {
-      value = sym (c.loop-i.invariant ∙ at_drop_all (place test (c.loop-i.i + 1)) c.args.train.now c.loop-i.i c.loop-i-test.false);
-      few = omega arith;
-    }
+pub returns-in-None-clause-value : goal.returns-in-None-clause-value
+returns-in-None-clause-value c =
+    ap numbered (sym c.in-None.is
+    ∙ position_from_yields_List (λ e. same_name c.args.name.now e.name) _ _ c.position.result c.position.ensures.ran (YieldsList-from_slice c.args.train.now (cc)) (λ x b q k. search (rules, tests)))
+    ∙ numbered-position (λ e. same_name c.args.name.now e.name) c.args.train.now
