@@ -38,13 +38,13 @@ cars_push x claim k (w ∷ vs) v =
     ap (λ cs. record { consist = x; stance = Direct; name = w.name; facing = w.facing; lead = mark claim k } ∷ cs)
     (cars_push x claim (k + 1) vs v ∙ ap (λ n. cars x claim (k + 1) vs ++ record { consist = x; stance = Direct; name = v.name; facing = v.facing; lead = mark claim n } ∷ []) z)
 
--- the first k vehicles stand at the front of what was `before`
+-- the first k vehicles stand behind what was `before`
 pub record Loading (x : Identity) (claim : Option Claim) (vs : List Vehicle) (k : ℕ) (before now : List Car) : Type 0 where
-  pub laid : now ≡ cars x claim 1 (take k vs) ++ drop k before
+  pub laid : now ≡ before ++ cars x claim 1 (take k vs)
   pub enough : k ≤ length vs
 
 pub loading_none : (x : Identity) (claim : Option Claim) (vs : List Vehicle) (before : List Car) → Loading x claim vs 0 before before
-loading_none x claim vs before = record { laid = refl; enough = omega arith }
+loading_none x claim vs before = record { laid = sym (append-nil before); enough = omega arith }
 
 pub nth_some : {A : Type 0} (xs : List A) (i : ℕ) (x : A) → slice_get xs i ≡ Some x → (i < length xs) × (x ≡ get_or xs i x)
 nth_some [] i x e = let z : ◌≡◌ {A = ℕ} 0 1 = cc in absurd (omega arith)
@@ -57,20 +57,12 @@ nth_none (y ∷ ys) zero e = let z : ◌≡◌ {A = ℕ} 0 1 = cc in absurd (ome
 nth_none (y ∷ ys) (suc i) e = let r = nth_none ys i e in omega arith
 
 pub loading_more : (x : Identity) (claim : Option Claim) (vs : List Vehicle) (k : ℕ) (before now : List Car) (v : Vehicle) (lead : Facing)
-    → Loading x claim vs k before now → length vs ≤ length before → slice_get vs k ≡ Some v → lead ≡ mark claim (k + 1)
-    → Loading x claim vs (k + 1) before (set now k (record { consist = x; stance = Direct; name = v.name; facing = v.facing; lead = lead }))
-loading_more x claim vs k before now v lead l room e le =
+    → Loading x claim vs k before now → slice_get vs k ≡ Some v → lead ≡ mark claim (k + 1)
+    → Loading x claim vs (k + 1) before (now ++ record { consist = x; stance = Direct; name = v.name; facing = v.facing; lead = lead } ∷ [])
+loading_more x claim vs k before now v lead l e le =
     let r = nth_some vs k v e in
     let long : length (take k vs) ≡ k = length-take-le k vs l.enough in
-    let here : length (cars x claim 1 (take k vs)) ≡ k = length-cars x claim 1 (take k vs) ∙ long in
-    let z : k - k ≡ 0 = omega arith in
-    let le' : k ≤ k = omega arith in
-    let fits : k < length before = omega (arith, r.0, room) in
     let car : Car = record { consist = x; stance = Direct; name = v.name; facing = v.facing; lead = lead } in
-    let put : set now k car ≡ cars x claim 1 (take k vs) ++ car ∷ drop (k + 1) before =
-    ap (λ xs. set xs k car) l.laid ∙ set-append_right (cars x claim 1 (take k vs)) (drop k before) k k car here le'
-    ∙ ap (λ n. cars x claim 1 (take k vs) ++ set (drop k before) n car) z
-    ∙ ap (λ xs. cars x claim 1 (take k vs) ++ set xs 0 car) (drop_more before k car fits) in
     let one : 1 + length (take k vs) ≡ k + 1 = omega (arith, long) in
     let same : mark claim (1 + length (take k vs)) ≡ lead = ap (mark claim) one ∙ sym le in
     let more : cars x claim 1 (take (k + 1) vs) ≡ cars x claim 1 (take k vs) ++ car ∷ [] =
@@ -78,23 +70,26 @@ loading_more x claim vs k before now v lead l room e le =
     ∙ cars_push x claim 1 (take k vs) v
     ∙ ap (λ d. cars x claim 1 (take k vs) ++ record { consist = x; stance = Direct; name = v.name; facing = v.facing; lead = d } ∷ []) same in
     record {
-      laid = put ∙ sym (append_assoc (cars x claim 1 (take k vs)) (car ∷ []) (drop (k + 1) before)) ∙ ap (λ xs. xs ++ drop (k + 1) before) (sym more);
+      laid = ap (λ xs. xs ++ car ∷ []) l.laid ∙ append_assoc before (cars x claim 1 (take k vs)) (car ∷ []) ∙ ap (λ xs. before ++ xs) (sym more);
       enough = omega (arith, r.0);
     }
 
+-- there is room for one vehicle more
+pub loading_room : (x : Identity) (claim : Option Claim) (vs : List Vehicle) (k most : ℕ) (before now : List Car) (v : Vehicle)
+    → Loading x claim vs k before now → slice_get vs k ≡ Some v → length before + length vs ≤ most → length now < most
+loading_room x claim vs k most before now v l e room =
+    let r = nth_some vs k v e in
+    let long = ap length l.laid ∙ length-append before (cars x claim 1 (take k vs)) in
+    let taken = length-cars x claim 1 (take k vs) ∙ length-take-le k vs l.enough in
+    omega (arith, r.0, long, taken, room)
+
 pub loading_all : (x : Identity) (claim : Option Claim) (vs : List Vehicle) (k : ℕ) (before now : List Car)
-    → Loading x claim vs k before now → length vs ≤ length before → length vs ≤ k → Written (cars x claim 1 vs) before k now
-loading_all x claim vs k before now l room h =
-    let e = l.enough in
-    record {
-      wrote = l.laid ∙ ap (λ ws. cars x claim 1 ws ++ drop k before) (take_all k vs h);
-      long = length-cars x claim 1 vs ∙ omega arith;
-      fits = omega arith;
-    }
+    → Loading x claim vs k before now → length vs ≤ k → now ≡ before ++ cars x claim 1 vs
+loading_all x claim vs k before now l h = l.laid ∙ ap (λ ws. before ++ cars x claim 1 ws) (take_all k vs h)
 
 pub loading_end : (x : Identity) (claim : Option Claim) (vs : List Vehicle) (k : ℕ) (before now : List Car)
-    → Loading x claim vs k before now → length vs ≤ length before → slice_get vs k ≡ None → Written (cars x claim 1 vs) before k now
-loading_end x claim vs k before now l room e = loading_all x claim vs k before now l room (nth_none vs k e)
+    → Loading x claim vs k before now → slice_get vs k ≡ None → now ≡ before ++ cars x claim 1 vs
+loading_end x claim vs k before now l e = loading_all x claim vs k before now l (nth_none vs k e)
 
 -- the length of the train, entry by entry
 pub length-train : (m : Meaning) (claims : Identity → Option Claim) (es : List Coupled) → length (train m claims es) ≡ sum_by (λ e. length (vehicles_of (m e.identity))) es

@@ -1,30 +1,15 @@
 -- Runs of cars of one consist, collected along the train.
 use Rattle.std.proofs.Common.{◌≡◌, ℕ, suc, ◌+◌, ◌-◌, ◌<◌, ◌≤◌, Bool, true, false, cond, List, [], ◌∷◌, ◌++◌, map, length, get_or, drop, set, sym, refl, ap, ◌∙◌, subst, ap₂, append_assoc, arith}
 use Rattle.std.specs.Str.{bytes_eq}
-use Rattle.std.proofs.lemmas.List.{drop_more, drop_all, append-nil, length_push, set-append_right}
+use Rattle.std.proofs.lemmas.List.{drop_more, drop_all, append-nil, length_push}
 use Rattle.std.proofs.lemmas.Slice.Eq.{bytes_eq-Decides}
 use Rattle.train.specs.declared.identity.Identity.{Identity}
 use Rattle.train.specs.Identities.{same_identity}
 use Rattle.directory.specs.declared.cars.Car.{Car}
 use Rattle.directory.specs.Sections.{Seat, firsts, seats, nobody}
-use Rattle.directory.specs.Written.{Written}
-use Rattle.directory.proofs.Behind.{nothing_yet}
 
 abbrev pub ident : List ℕ → Identity
 ident bs = record { bytes = bs }
-
--- one element more behind what has been written
-pub push : {A : Type 0} {done before now : List A} {n : ℕ} → Written done before n now → (y : A) → n < length before → Written (done ++ y ∷ []) before (n + 1) (set now n y)
-push {A} {done} {before} {now} {n} w y h =
-    let z : n - n ≡ 0 = omega arith in
-    let le : n ≤ n = omega arith in
-    record {
-      wrote =
-          ap (λ zs. set zs n y) w.wrote ∙ set-append_right done (drop n before) n n y w.long le
-          ∙ ap (λ k. done ++ set (drop n before) k y) z ∙ ap (λ zs. done ++ set zs 0 y) (drop_more before n y h) ∙ sym (append_assoc done (y ∷ []) (drop (n + 1) before));
-      long = length_push done y ∙ ap (λ k. k + 1) w.long;
-      fits = omega arith;
-    }
 
 length-firsts : (x : Identity) (cs : List Car) → length (firsts x cs) ≤ length cs
 length-firsts x [] = omega arith
@@ -46,72 +31,56 @@ length-seats n x (c ∷ cs) = by (same_identity x c.consist) refl (length-seats 
     by false q p r = rw q (ap suc r)
 
 -- the rows that are collected, and what is left of the cars gives the others
-pub record Collecting {A : Type 0} (g : Car → A) (cs : List Car) (i count : ℕ) (prior : List ℕ) (before now : List A) : Type 0 where
-  pub done : List A
-  pub laid : Written done before count now
-  pub left : done ++ map g (firsts (ident prior) (drop i cs)) ≡ map g (firsts nobody cs)
-  pub few : count ≤ i
+pub record Collecting {A : Type 0} (g : Car → A) (cs : List Car) (i : ℕ) (prior : List ℕ) (table : List A) : Type 0 where
+  pub left : table ++ map g (firsts (ident prior) (drop i cs)) ≡ map g (firsts nobody cs)
+  pub few : length table ≤ i
 
-module _ {A : Type 0} (g : Car → A) (cs : List Car) where
-  pub collecting_none : (before : List A) → Collecting g cs 0 0 [] before before
-  collecting_none before = record { done = []; laid = nothing_yet before; left = refl; few = omega arith }
+module _ {A : Type 0} (g : Car → A) (cs : List Car) {i : ℕ} {prior : List ℕ} {table : List A} (s : Collecting g cs i prior table) where
+  pub collecting_same : (d : Car) → i < length cs → true ≡ bytes_eq prior (get_or cs i d).consist.bytes → Collecting g cs (i + 1) prior table
+  collecting_same d h e =
+      record {
+        left =
+            ap (λ b. table ++ map g (cond b (firsts (ident prior) (drop (i + 1) cs)) (get_or cs i d ∷ firsts (get_or cs i d).consist (drop (i + 1) cs)))) e
+            ∙ ap (λ z. table ++ map g (firsts (ident prior) z)) (sym (drop_more cs i d h)) ∙ s.left;
+        few = omega (arith, s.few);
+      }
 
-  module _ {i count : ℕ} {prior : List ℕ} {before now : List A} (s : Collecting g cs i count prior before now) (d : Car) (h : i < length cs) where
-    pub collecting_same : true ≡ bytes_eq prior (get_or cs i d).consist.bytes → Collecting g cs (i + 1) count prior before now
-    collecting_same e =
-        record {
-          done = s.done;
-          laid = s.laid;
-          left =
-              ap (λ b. s.done ++ map g (cond b (firsts (ident prior) (drop (i + 1) cs)) (get_or cs i d ∷ firsts (get_or cs i d).consist (drop (i + 1) cs)))) e
-              ∙ ap (λ z. s.done ++ map g (firsts (ident prior) z)) (sym (drop_more cs i d h)) ∙ s.left;
-          few = omega (arith, s.few);
-        }
+  pub collecting_more : (d : Car) → i < length cs → (y : A) → false ≡ bytes_eq prior (get_or cs i d).consist.bytes → y ≡ g (get_or cs i d)
+      → Collecting g cs (i + 1) (get_or cs i d).consist.bytes (table ++ y ∷ [])
+  collecting_more d h y e q =
+      let rest = map g (firsts (get_or cs i d).consist (drop (i + 1) cs)) in
+      let long = length_push table y in
+      record {
+        left =
+            append_assoc table (y ∷ []) rest ∙ ap (λ w. table ++ w ∷ rest) q
+            ∙ ap (λ b. table ++ map g (cond b (firsts (ident prior) (drop (i + 1) cs)) (get_or cs i d ∷ firsts (get_or cs i d).consist (drop (i + 1) cs)))) e
+            ∙ ap (λ z. table ++ map g (firsts (ident prior) z)) (sym (drop_more cs i d h)) ∙ s.left;
+        few = omega (arith, s.few, long);
+      }
 
-    pub collecting_more : (y : A) → false ≡ bytes_eq prior (get_or cs i d).consist.bytes → y ≡ g (get_or cs i d) → length cs ≤ length before
-        → Collecting g cs (i + 1) (count + 1) (get_or cs i d).consist.bytes before (set now count y)
-    collecting_more y e q room =
-        let rest = map g (firsts (get_or cs i d).consist (drop (i + 1) cs)) in
-        record {
-          done = s.done ++ y ∷ [];
-          laid = push s.laid y (omega (arith, s.few));
-          left =
-              append_assoc s.done (y ∷ []) rest ∙ ap (λ w. s.done ++ w ∷ rest) q
-              ∙ ap (λ b. s.done ++ map g (cond b (firsts (ident prior) (drop (i + 1) cs)) (get_or cs i d ∷ firsts (get_or cs i d).consist (drop (i + 1) cs)))) e
-              ∙ ap (λ z. s.done ++ map g (firsts (ident prior) z)) (sym (drop_more cs i d h)) ∙ s.left;
-          few = omega (arith, s.few);
-        }
-
-  pub collecting_all : {i count : ℕ} {prior : List ℕ} {before now : List A} → Collecting g cs i count prior before now → length cs ≤ i → Written (map g (firsts nobody cs)) before count now
-  collecting_all {i} {count} {prior} {before} {now} s h =
-      let none = ap (λ z. s.done ++ map g (firsts (ident prior) z)) (drop_all i cs h) ∙ append-nil s.done in
-      subst (λ z. Written z before count now) (sym none ∙ s.left) s.laid
+  pub collecting_all : length cs ≤ i → table ≡ map g (firsts nobody cs)
+  collecting_all h = sym (ap (λ z. table ++ map g (firsts (ident prior) z)) (drop_all i cs h) ∙ append-nil table) ∙ s.left
 
 -- the same for seats, one for each car
-pub record Seating {A : Type 0} (g : Seat → A) (cs : List Car) (i run : ℕ) (prior : List ℕ) (before now : List A) : Type 0 where
-  pub done : List A
-  pub laid : Written done before i now
-  pub left : done ++ map g (seats run (ident prior) (drop i cs)) ≡ map g (seats 0 nobody cs)
+pub record Seating {A : Type 0} (g : Seat → A) (cs : List Car) (i run : ℕ) (prior : List ℕ) (table : List A) : Type 0 where
+  pub left : table ++ map g (seats run (ident prior) (drop i cs)) ≡ map g (seats 0 nobody cs)
   pub few : run ≤ i
+  pub long : length table ≡ i
 
-module _ {A : Type 0} (g : Seat → A) (cs : List Car) where
-  pub seating_none : (before : List A) → Seating g cs 0 0 [] before before
-  seating_none before = record { done = []; laid = nothing_yet before; left = refl; few = omega arith }
-
-  pub seating_more : {i run : ℕ} {prior : List ℕ} {before now : List A} → Seating g cs i run prior before now → (d : Car) (next : ℕ) (y : A) → i < length cs
-      → next ≡ cond (bytes_eq prior (get_or cs i d).consist.bytes) run (run + 1) → next ≤ run + 1 → y ≡ g (record { car = get_or cs i d; run = next }) → length cs ≤ length before
-      → Seating g cs (i + 1) next (get_or cs i d).consist.bytes before (set now i y)
-  seating_more {i} {run} {prior} {before} {now} s d next y h en few q room =
+module _ {A : Type 0} (g : Seat → A) (cs : List Car) {i run : ℕ} {prior : List ℕ} {table : List A} (s : Seating g cs i run prior table) where
+  pub seating_more : (d : Car) (next : ℕ) (y : A) → i < length cs
+      → next ≡ cond (bytes_eq prior (get_or cs i d).consist.bytes) run (run + 1) → next ≤ run + 1 → y ≡ g (record { car = get_or cs i d; run = next })
+      → Seating g cs (i + 1) next (get_or cs i d).consist.bytes (table ++ y ∷ [])
+  seating_more d next y h en few q =
       let c = get_or cs i d in
       record {
-        done = s.done ++ y ∷ [];
-        laid = push s.laid y (omega arith);
         left =
-            append_assoc s.done (y ∷ []) (map g (seats next c.consist (drop (i + 1) cs)))
-            ∙ ap (λ w. s.done ++ w ∷ map g (seats next c.consist (drop (i + 1) cs))) q
-            ∙ ap (λ z. s.done ++ map g z) (by (bytes_eq prior c.consist.bytes) refl)
-            ∙ ap (λ z. s.done ++ map g (seats run (ident prior) z)) (sym (drop_more cs i d h)) ∙ s.left;
+            append_assoc table (y ∷ []) (map g (seats next c.consist (drop (i + 1) cs)))
+            ∙ ap (λ w. table ++ w ∷ map g (seats next c.consist (drop (i + 1) cs))) q
+            ∙ ap (λ z. table ++ map g z) (by (bytes_eq prior c.consist.bytes) refl)
+            ∙ ap (λ z. table ++ map g (seats run (ident prior) z)) (sym (drop_more cs i d h)) ∙ s.left;
         few = omega (arith, s.few);
+        long = length_push table y ∙ ap (λ (n : ℕ). n + 1) s.long;
       }
     where
       by : (b : Bool) → bytes_eq prior (get_or cs i d).consist.bytes ≡ b
@@ -126,7 +95,5 @@ module _ {A : Type 0} (g : Seat → A) (cs : List Car) where
           ap (λ k. record { car = get_or cs i d; run = k } ∷ seats k (get_or cs i d).consist (drop (i + 1) cs)) n
           ∙ sym (ap (λ b. cond b (record { car = get_or cs i d; run = run } ∷ seats run (ident prior) (drop (i + 1) cs)) (record { car = get_or cs i d; run = run + 1 } ∷ seats (run + 1) (get_or cs i d).consist (drop (i + 1) cs))) e)
 
-  pub seating_all : {i run n : ℕ} {prior : List ℕ} {before now : List A} → Seating g cs i run prior before now → length cs ≤ i → n ≡ i → Written (map g (seats 0 nobody cs)) before n now
-  seating_all {i} {run} {n} {prior} {before} {now} s h e =
-      let none = ap (λ z. s.done ++ map g (seats run (ident prior) z)) (drop_all i cs h) ∙ append-nil s.done in
-      subst (λ k. Written (map g (seats 0 nobody cs)) before k now) (sym e) (subst (λ z. Written z before i now) (sym none ∙ s.left) s.laid)
+  pub seating_all : length cs ≤ i → table ≡ map g (seats 0 nobody cs)
+  seating_all h = sym (ap (λ z. table ++ map g (seats run (ident prior) z)) (drop_all i cs h) ∙ append-nil table) ∙ s.left

@@ -51,39 +51,20 @@ module _ (a b : ℕ) where
       ∙ ap (λ z. bytes_eq (take a l) (take a r) && z) (same_append (take b (drop (a + 1) l)) (take b (drop (a + 1) r)) _ _ two)
       ∙ sym (and_assoc (bytes_eq (take a l) (take a r)) (bytes_eq (take b (drop (a + 1) l)) (take b (drop (a + 1) r))) _)
 
-  -- the rows from the i-th on
-  abbrev pub from_row : ℕ → ℕ → List ℕ → List ℕ
-  from_row n i bs = thinned a b (n - i) (drop (size * i) bs)
+  -- so many rows are left, and the first of them decides or leaves it to the others
+  pub rows_on : (m n : ℕ) (l r : List ℕ) (x : Bool) → m ≡ suc n → size * m ≤ length l → size * m ≤ length r → x ≡ same_row l r
+      → bytes_eq (thinned a b m l) (thinned a b m r) ≡ (x && bytes_eq (thinned a b n (drop size l)) (thinned a b n (drop size r)))
+  rows_on m n l r x e h g s =
+      let z = ap (λ (k : ℕ). size * k) e in
+      ap (λ (k : ℕ). bytes_eq (thinned a b k l) (thinned a b k r)) e
+      ∙ same_first n l r (omega (arith, z)) (omega (arith, z))
+      ∙ ap (λ y. y && bytes_eq (thinned a b n (drop size l)) (thinned a b n (drop size r))) (sym s)
 
-  pub room_at : (n i : ℕ) (bs : List ℕ) → i < n → size * n ≤ length bs → size ≤ length (drop (size * i) bs)
-  room_at n i bs h room =
-      let d = length-drop (size * i) bs in
-      let more = times_more size i in
-      let le : size * (i + 1) ≤ size * n = mul-le-mul_left size (omega arith) in
-      omega arith
-
-  pub start_at : (n i : ℕ) (bs : List ℕ) → i < n → size * n ≤ length bs → size * i ≤ length bs
-  start_at n i bs h room = let le : size * i ≤ size * n = mul-le-mul_left size (omega arith) in omega arith
-
-  pub small_at : (n i : ℕ) → i < n → n < 256 → size ≤ 24 → size * i < 6144
-  small_at n i h k s = let le : size * i ≤ 24 * i = mul-le-mul_right i s in omega arith
-
-  from_next : (n i : ℕ) (bs : List ℕ) → thinned a b (n - (i + 1)) (drop size (drop (size * i) bs)) ≡ from_row n (i + 1) bs
-  from_next n i bs = ap (thinned a b (n - (i + 1))) (drop-drop size (size * i) bs ∙ ap (λ z. drop z bs) (sym (times_more size i)))
-
-  pub same_at : (n i : ℕ) (l r : List ℕ) → i < n → size * n ≤ length l → size * n ≤ length r
-      → bytes_eq (from_row n i l) (from_row n i r) ≡ (same_row (drop (size * i) l) (drop (size * i) r) && bytes_eq (from_row n (i + 1) l) (from_row n (i + 1) r))
-  same_at n i l r h hl hr =
-      let e : n - i ≡ suc (n - (i + 1)) = omega arith in
-      ap (λ z. bytes_eq (thinned a b z (drop (size * i) l)) (thinned a b z (drop (size * i) r))) e
-      ∙ same_first (n - (i + 1)) (drop (size * i) l) (drop (size * i) r) (room_at n i l h hl) (room_at n i r h hr)
-      ∙ ap₂ (λ u v. same_row (drop (size * i) l) (drop (size * i) r) && bytes_eq u v) (from_next n i l) (from_next n i r)
-
-  pub same_start : (n : ℕ) (bs : List ℕ) → from_row n 0 bs ≡ thinned a b n bs
-  same_start n bs = let e : n - 0 ≡ n = omega arith in ap₂ (λ k z. thinned a b k (drop z bs)) e (mul-zero size)
-
-  pub same_end : (n i : ℕ) (l r : List ℕ) → n ≤ i → bytes_eq (from_row n i l) (from_row n i r) ≡ true
-  same_end n i l r h = let e : n - i ≡ 0 = omega arith in ap (λ z. bytes_eq (thinned a b z (drop (size * i) l)) (thinned a b z (drop (size * i) r))) e
+  pub rows_left : (m n : ℕ) (bs : List ℕ) → m ≡ suc n → size * m ≤ length bs → size * n ≤ length (drop size bs)
+  rows_left m n bs e h =
+      let z = ap (λ (k : ℕ). size * k) e in
+      let d = length-drop size bs in
+      omega (arith, z, d)
 
   pub thin_long : (n : ℕ) (bs : List ℕ) → size * n ≤ length bs → length (thinned a b n bs) ≡ (a + b) * n
   thin_long zero bs h = sym (mul-zero (a + b))

@@ -4,15 +4,22 @@ ghost use Rattle.directory.specs.Cars.{turned_car};
 ghost use Rattle.directory.specs.Operation.{strange};
 ghost use Rattle.std.proofs.Common.{rules};
 
+use arrayvec::ArrayVec;
 use train::facing::Facing;
 use train::identity::Identity;
 use train::name::Name;
 use train::turning::Turn;
 
+/// The most vehicles of a train, and the most consists.
+pub const MOST: usize = 63;
+
+/// The vehicles of a train, in some order.
+pub(crate) type Cars = ArrayVec<Car, MOST>;
+
 /// A vehicle as it stands along the train, with its consist and that consist's facing. Of an inserted
 /// vehicle the identity is zero and the facings are not known. `lead` is the claimed direction of the
 /// leading vehicle, and not known for every other.
-#[derive(Clone, Copy)]
+#[derive(Clone, Copy, Default)]
 pub struct Car {
     pub consist: Identity,
     pub stance: Facing,

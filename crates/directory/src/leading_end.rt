@@ -43,11 +43,13 @@ fn same_rows(left: &[u8], right: &[u8], count: u8, row: Row) -> bool
     ensures { result ≡ bytes_eq (thinned row.ahead row.behind count left.now) (thinned row.ahead row.behind count right.now) }
 {
     let size = row.ahead + 1 + row.behind;
-    for i in 0..count as usize {
-        let at = size * i;
-        if !same_row(&left[at..], &right[at..], row) {
+    let (mut left, mut right) = (left, right);
+    for _ in 0..count {
+        if !same_row(left, right, row) {
             return false;
         }
+        left = &left[size..];
+        right = &right[size..];
     }
     true
 }

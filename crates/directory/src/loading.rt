@@ -1,5 +1,5 @@
 // The vehicles of a formation, asked of the fleet and laid out in train order.
-ghost use Rattle.std.specs.Prelude.{◌≡◌, ℕ, ◌+◌, ◌*◌, ◌≤◌, length, Option as Maybe};
+ghost use Rattle.std.specs.Prelude.{◌≡◌, ◌+◌, ◌≤◌, ◌++◌, length, Option as Maybe};
 ghost use Rattle.train.specs.Refusals.{refusal_of, breach, each, alone};
 ghost use Rattle.train.specs.declared.identity.Identity.{Identity as Id};
 ghost use Rattle.train.specs.declared.refusal.Part.TheVariants.{Composing};
@@ -9,9 +9,9 @@ ghost use Rattle.bench.specs.Shown.{shown};
 ghost use Rattle.bench.specs.declared.claims.Claim.{Claim as Claimed};
 ghost use Rattle.directory.specs.Cars.{mark, cars as cars_from, stretch, train as train_of};
 ghost use Rattle.directory.specs.Composing.{has};
-ghost use Rattle.directory.specs.Written.{Written};
+ghost use Rattle.arrayvec.specs.ArrayVec.{array_vec_len};
 
-use crate::cars::Car;
+use crate::cars::{Car, Cars};
 use bench::claims::Claim;
 use bench::state::Bench;
 use fleet::questions::Fleet;
@@ -22,8 +22,8 @@ use train::identity::Identity;
 use train::refusal::{Part, Reason, Refusal};
 use train::turning::turn_all;
 
-/// The most vehicles of a consist.
-const MOST: u8 = 32;
+/// The last number that a vehicle of a consist can have.
+const LAST: u8 = 32;
 
 /// The claimed direction, if this is the claimed vehicle.
 fn lead_mark(claim: Option<Claim>, k: u8) -> Facing
@@ -36,30 +36,22 @@ fn lead_mark(claim: Option<Claim>, k: u8) -> Facing
 }
 
 /// Lays out the vehicles of a consist, from its vehicle 1 on.
-fn load_consist<F: Fleet>(
-    fleet: &F,
-    identity: &Identity,
-    claim: Option<Claim>,
-    cars: &mut [Car],
-) -> usize
-    requires { length (vehicles_of (F.Meant.meaning fleet.now identity.now)) ≤ length cars.old }
-    ensures { Written (cars_from identity.now claim 1 (vehicles_of (F.Meant.meaning fleet.now identity.now))) cars.old result cars.new }
+fn load_consist<F: Fleet>(fleet: &F, identity: &Identity, claim: Option<Claim>, cars: &mut Cars)
+    requires { array_vec_len cars.old + length (vehicles_of (F.Meant.meaning fleet.now identity.now)) ≤ 63 }
+    ensures { cars.new.items ≡ cars.old.items ++ cars_from identity.now claim 1 (vehicles_of (F.Meant.meaning fleet.now identity.now)) }
 {
-    for k in 0..MOST {
-        match fleet.vehicle(identity, k + 1) {
-            Some(vehicle) => {
-                cars[k as usize] = Car {
-                    consist: *identity,
-                    stance: Facing::Direct,
-                    name: vehicle.name,
-                    facing: vehicle.facing,
-                    lead: lead_mark(claim, k + 1),
-                };
-            }
-            None => return k as usize,
-        }
+    for k in 0..LAST {
+        let Some(vehicle) = fleet.vehicle(identity, k + 1) else {
+            return;
+        };
+        cars.push(Car {
+            consist: *identity,
+            stance: Facing::Direct,
+            name: vehicle.name,
+            facing: vehicle.facing,
+            lead: lead_mark(claim, k + 1),
+        });
     }
-    MOST as usize
 }
 
 /// Every consist of the formation is one of the fleet's.
@@ -93,28 +85,27 @@ pub(crate) fn train_length<F: Fleet>(fleet: &F, formation: &[Coupled]) -> usize
 }
 
 /// Lays out the vehicles of one entry of the formation, in train order.
-fn load_entry<F: Fleet>(fleet: &F, bench: &Bench, entry: &Coupled, cars: &mut [Car]) -> usize
-    requires { length (vehicles_of (F.Meant.meaning fleet.now entry.now.identity)) ≤ length cars.old }
-    ensures { Written (stretch (F.Meant.meaning fleet.now) (shown bench.now).claims entry.now) cars.old result cars.new }
+fn load_entry<F: Fleet>(fleet: &F, bench: &Bench, entry: &Coupled, cars: &mut Cars)
+    requires { array_vec_len cars.old + length (vehicles_of (F.Meant.meaning fleet.now entry.now.identity)) ≤ 63 }
+    ensures { cars.new.items ≡ cars.old.items ++ stretch (F.Meant.meaning fleet.now) (shown bench.now).claims entry.now }
 {
+    let from = cars.len();
     let claim = bench.claim_of(&entry.identity);
-    let count = load_consist(fleet, &entry.identity, claim, cars);
+    load_consist(fleet, &entry.identity, claim, cars);
     if entry.facing == Facing::Inverse {
-        turn_all(&mut cars[0..count]);
+        turn_all(&mut cars.as_mut_slice()[from..]);
     }
-    count
 }
 
 /// Lays out the vehicles of the formation, entry after entry.
-pub(crate) fn load_train<F: Fleet>(fleet: &F, bench: &Bench, cars: &mut [Car]) -> usize
-    requires room { length (train_of (F.Meant.meaning fleet.now) (shown bench.now).claims (shown bench.now).formation) ≤ length cars.old }
-    requires few { length cars.old ≤ 63 }
-    ensures { Written (train_of (F.Meant.meaning fleet.now) (shown bench.now).claims (shown bench.now).formation) cars.old result cars.new }
+pub(crate) fn load_train<F: Fleet>(fleet: &F, bench: &Bench) -> Cars
+    requires { length (train_of (F.Meant.meaning fleet.now) (shown bench.now).claims (shown bench.now).formation) ≤ 63 }
+    ensures { result.items ≡ train_of (F.Meant.meaning fleet.now) (shown bench.now).claims (shown bench.now).formation }
 {
     let formation = bench.formation();
-    let mut at = 0;
+    let mut cars = Cars::new();
     for entry in formation {
-        at += load_entry(fleet, bench, entry, &mut cars[at..]);
+        load_entry(fleet, bench, entry, &mut cars);
     }
-    at
+    cars
 }

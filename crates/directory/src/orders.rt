@@ -10,9 +10,8 @@ ghost use Rattle.directory.specs.Composing.{in_order, fresh_name, consist_at, na
 ghost use Rattle.directory.specs.Operation.{names as names_of, pick as pick_of, ordered, strange};
 ghost use Rattle.directory.specs.Sections.{place};
 ghost use Rattle.directory.specs.Steps.{next_place};
-ghost use Rattle.directory.specs.Written.{Written};
 
-use crate::cars::Car;
+use crate::cars::{Car, Cars};
 use train::checks::{Labelled, stands_among};
 use train::entries::Coupled;
 use train::facing::Facing;
@@ -101,7 +100,7 @@ fn next_place(name: &Name, train: &[Car], at: usize) -> Option<usize>
 pub(crate) fn in_order(confirmed: &[Name], head: &[Car]) -> bool
     ensures { result ≡ in_order confirmed.now (names_of head.now) }
 {
-    if confirmed.len() == 0 {
+    if confirmed.is_empty() {
         return true;
     }
     let mut at = 0;
@@ -124,19 +123,30 @@ pub(crate) fn pick(train: &[Car], name: &Name) -> Car
     }
 }
 
-/// Lays out the operational order: the confirmed list's, if there is one.
-pub(crate) fn order_by(confirmed: &[Name], head: &[Car], cars: &mut [Car]) -> usize
-    requires listed { length confirmed.now ≤ length cars.old }
-    requires headed { length head.now ≤ length cars.old }
-    ensures { Written (ordered confirmed.now head.now) cars.old result cars.new }
+/// The same vehicles once more.
+pub(crate) fn copied(train: &[Car]) -> Cars
+    requires { length train.now ≤ 63 }
+    ensures { result.items ≡ train.now }
 {
-    if confirmed.len() == 0 {
-        let count = head.len();
-        cars[0..count].copy_from_slice(head);
-        return count;
+    let mut cars = Cars::new();
+    for car in train {
+        cars.push(*car);
     }
-    for (i, name) in confirmed.iter().enumerate() {
-        cars[i] = pick(head, name);
+    cars
+}
+
+/// The operational order: the confirmed list's, if there is one.
+pub(crate) fn order_by(confirmed: &[Name], head: &[Car]) -> Cars
+    requires listed { length confirmed.now ≤ 63 }
+    requires headed { length head.now ≤ 63 }
+    ensures { result.items ≡ ordered confirmed.now head.now }
+{
+    if confirmed.is_empty() {
+        return copied(head);
     }
-    confirmed.len()
+    let mut cars = Cars::new();
+    for name in confirmed {
+        cars.push(pick(head, name));
+    }
+    cars
 }

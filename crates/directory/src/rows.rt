@@ -21,7 +21,7 @@ pub(crate) trait Row {
 }
 
 /// A train consist.
-#[derive(Clone, Copy)]
+#[derive(Clone, Copy, Default)]
 pub(crate) struct TrainRow {
     pub identity: Identity,
     pub counter: u32,
@@ -44,7 +44,7 @@ impl Row for TrainRow {
 }
 
 /// An operational consist; `number` is its train number.
-#[derive(Clone, Copy)]
+#[derive(Clone, Copy, Default)]
 pub(crate) struct ConsistRow {
     pub identity: Identity,
     pub facing: Facing,
@@ -65,7 +65,7 @@ impl Row for ConsistRow {
 }
 
 /// An operational vehicle; `number` is its train number, `run` the number of its operational consist.
-#[derive(Clone, Copy)]
+#[derive(Clone, Copy, Default)]
 pub(crate) struct VehicleRow {
     pub name: Name,
     pub lead: Facing,

@@ -4,15 +4,18 @@ ghost use Rattle.std.specs.Str.{bytes_eq};
 ghost use Rattle.fleet.specs.Fleets.{vehicles_of};
 ghost use Rattle.directory.specs.Rows.{train_row_of, consist_row_of, vehicle_row_of};
 ghost use Rattle.directory.specs.Sections.{counter_of, firsts, seats, nobody};
-ghost use Rattle.directory.specs.Written.{Written};
 
-use crate::cars::Car;
+use crate::cars::{Car, MOST};
 use crate::orders::{consist_number, vehicle_number};
 use crate::rows::{ConsistRow, TrainRow, VehicleRow};
+use arrayvec::ArrayVec;
 use fleet::questions::Fleet;
 use train::entries::Coupled;
 use train::identity::Identity;
 use train::octets;
+
+/// The rows of a section.
+pub(crate) type Rows<R> = ArrayVec<R, MOST>;
 
 /// The counter of a consist; 0 where the fleet lacks it.
 fn counter_of<F: Fleet>(fleet: &F, identity: &Identity) -> u32
@@ -22,22 +25,19 @@ fn counter_of<F: Fleet>(fleet: &F, identity: &Identity) -> u32
 }
 
 /// The rows of the train consists, along the formation.
-pub(crate) fn train_rows<F: Fleet>(
-    fleet: &F,
-    formation: &[Coupled],
-    table: &mut [TrainRow],
-) -> usize
-    requires { length formation.now ≤ length table.old }
-    ensures { Written (map (train_row_of (F.Meant.meaning fleet.now)) formation.now) table.old result table.new }
+pub(crate) fn train_rows<F: Fleet>(fleet: &F, formation: &[Coupled]) -> Rows<TrainRow>
+    requires { length formation.now ≤ 63 }
+    ensures { result.items ≡ map (train_row_of (F.Meant.meaning fleet.now)) formation.now }
 {
-    for (i, entry) in formation.iter().enumerate() {
-        table[i] = TrainRow {
+    let mut table = Rows::new();
+    for entry in formation {
+        table.push(TrainRow {
             identity: entry.identity,
             counter: counter_of(fleet, &entry.identity),
             facing: entry.facing,
-        };
+        });
     }
-    formation.len()
+    table
 }
 
 /// The row of the operational consist that begins with this car.
@@ -53,22 +53,21 @@ fn consist_row(car: &Car, formation: &[Coupled]) -> ConsistRow
 }
 
 /// The rows of the operational consists, one for each unbroken run of a consist's cars.
-pub(crate) fn consist_rows(cars: &[Car], formation: &[Coupled], table: &mut [ConsistRow]) -> usize
+pub(crate) fn consist_rows(cars: &[Car], formation: &[Coupled]) -> Rows<ConsistRow>
     requires few { length formation.now ≤ 63 }
-    requires room { length cars.now ≤ length table.old }
-    ensures { Written (map (consist_row_of formation.now) (firsts nobody cars.now)) table.old result table.new }
+    requires room { length cars.now ≤ 63 }
+    ensures { result.items ≡ map (consist_row_of formation.now) (firsts nobody cars.now) }
 {
+    let mut table = Rows::new();
     let mut prior: &[u8] = &[];
-    let mut count = 0;
     for car in cars {
         if octets::same(prior, &car.consist.bytes) {
             continue;
         }
-        table[count] = consist_row(car, formation);
-        count += 1;
+        table.push(consist_row(car, formation));
         prior = &car.consist.bytes;
     }
-    count
+    table
 }
 
 /// The number of the run that this car belongs to, behind a car of the consist `prior` in the run `run`.
@@ -100,18 +99,18 @@ fn vehicle_row(car: &Car, train: &[Car], run: usize) -> VehicleRow
 }
 
 /// The rows of the operational vehicles.
-pub(crate) fn vehicle_rows(cars: &[Car], train: &[Car], table: &mut [VehicleRow]) -> usize
+pub(crate) fn vehicle_rows(cars: &[Car], train: &[Car]) -> Rows<VehicleRow>
     requires few { length train.now ≤ 63 }
-    requires short { length cars.now ≤ 63 }
-    requires room { length cars.now ≤ length table.old }
-    ensures { Written (map (vehicle_row_of train.now) (seats 0 nobody cars.now)) table.old result table.new }
+    requires room { length cars.now ≤ 63 }
+    ensures { result.items ≡ map (vehicle_row_of train.now) (seats 0 nobody cars.now) }
 {
+    let mut table = Rows::new();
     let mut prior: &[u8] = &[];
     let mut run = 0;
-    for (i, car) in cars.iter().enumerate() {
+    for car in cars {
         run = run_of(prior, car, run);
-        table[i] = vehicle_row(car, train, run);
+        table.push(vehicle_row(car, train, run));
         prior = &car.consist.bytes;
     }
-    cars.len()
+    table
 }

@@ -1,27 +1,29 @@
 use Rattle.std.proofs.Common.{length, Some, sym, refl, ap, ◌∙◌}
 use Rattle.bench.specs.Shown.{shown}
-use Rattle.directory.proofs.Behind.{front, same_text}
+use Rattle.directory.proofs.Behind.{same_text}
 use Rattle.directory.proofs.Composed.{same_whole, same_size, too_short, long_enough, lent_text}
 use Rattle.directory.proofs.composing.write_composition.Goals as goal
 
-pub returns-then-out-need : goal.returns-then-out-need
-returns-then-out-need g c =
+pub returns-then-out-need-clause-answer : goal.returns-then-out-need-clause-answer
+returns-then-out-need-clause-answer g c =
     let f = shown c.args.bench.now in
     let m = g.F.Meant.meaning c.args.fleet.now in
     let e = same_size f m c.formation-formation.result.now c.args.cars.now c.args.train.now _ _ _ c.formation-formation.ensures.value c.requires.cars
-    c.train_rows-c.ensures.long c.consist_rows-k.ensures.long c.vehicle_rows-v.ensures.long in
-    record { answer = ap Some c.at.ensures ∙ sym (too_short f m (length c.args.out.now) _ e c.if-out-need.true); wrote = refl }
+    (sym (c.len.ensures.value ∙ ap length c.train_rows-trains.ensures)) (sym (c.len-2.ensures.value ∙ ap length c.consist_rows-consists.ensures)) (sym (c.len-3.ensures.value ∙ ap length c.vehicle_rows-vehicles.ensures)) in
+    ap Some c.at.ensures ∙ sym (too_short f m (length c.args.out.now) _ e c.if-out-need.true)
 
-pub returns : goal.returns
-returns g c =
+pub returns-clause-answer : goal.returns-clause-answer
+returns-clause-answer g c =
     let f = shown c.args.bench.now in
     let m = g.F.Meant.meaning c.args.fleet.now in
     let e = same_size f m c.formation-formation.result.now c.args.cars.now c.args.train.now _ _ _ c.formation-formation.ensures.value c.requires.cars
-    c.train_rows-c.ensures.long c.consist_rows-k.ensures.long c.vehicle_rows-v.ensures.long in
-    record {
-      answer = sym (long_enough f m (length c.args.out.now) _ e c.if-out-need.false);
-      wrote =
-          same_text (lent_text _ (front c.train_rows-c.ensures) (front c.consist_rows-k.ensures) (front c.vehicle_rows-v.ensures)
-          ∙ same_whole f m c.head_of-head.result c.formation-formation.result.now c.args.cars.now c.args.train.now c.head_of-head.ensures c.formation-formation.ensures.value c.requires.cars c.requires.train)
-          c.write_whole.ensures.wrote;
-    }
+    (sym (c.len.ensures.value ∙ ap length c.train_rows-trains.ensures)) (sym (c.len-2.ensures.value ∙ ap length c.consist_rows-consists.ensures)) (sym (c.len-3.ensures.value ∙ ap length c.vehicle_rows-vehicles.ensures)) in
+    sym (long_enough f m (length c.args.out.now) _ e c.if-out-need.false)
+
+pub returns-clause-wrote : goal.returns-clause-wrote
+returns-clause-wrote g c =
+    let f = shown c.args.bench.now in
+    let m = g.F.Meant.meaning c.args.fleet.now in
+    same_text (lent_text _ (c.as_slice.ensures.value ∙ c.train_rows-trains.ensures) (c.as_slice-2.ensures.value ∙ c.consist_rows-consists.ensures) (c.as_slice-3.ensures.value ∙ c.vehicle_rows-vehicles.ensures)
+    ∙ same_whole f m c.head_of-head.result c.formation-formation.result.now c.args.cars.now c.args.train.now c.head_of-head.ensures c.formation-formation.ensures.value c.requires.cars c.requires.train)
+    c.write_whole.ensures.wrote

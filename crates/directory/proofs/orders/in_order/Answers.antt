@@ -1,4 +1,5 @@
 use Rattle.std.proofs.Common.{length, sym, ◌∙◌, arith}
+use Rattle.std.proofs.lemmas.Bool.Decides.{nat_tests}
 use Rattle.std.proofs.lemmas.List.{length-map}
 use Rattle.directory.specs.Operation.{names}
 use Rattle.directory.proofs.InOrder.{walk_on, walk_off, walk_end, some_order}
@@ -8,7 +9,7 @@ pub returns-in-None : goal.returns-in-None
 returns-in-None c =
     let held = names c.args.head.now in
     let ns = c.args.confirmed.now in
-    sym (some_order ns held c.if-confirmed-eq0.false ∙ c.loop-name.invariant.1 ∙ walk_off held ns c.loop-name.name-index c.loop-name.at _ c.loop-name-test.true c.in-None.ensures.value)
+    sym (some_order ns held (grind (arith, nat_tests)) ∙ c.loop-name.invariant.1 ∙ walk_off held ns c.loop-name.name-index c.loop-name.at _ c.loop-name-test.true c.in-None.ensures.value)
 
 pub loop-name-preserved : goal.loop-name-preserved
 loop-name-preserved c =
@@ -24,5 +25,5 @@ returns c =
     let ns = c.args.confirmed.now in
     let long = length-map c.args.head.now (λ d. d.name) in
     let within = c.loop-name.invariant.0 in
-    sym (some_order ns held c.if-confirmed-eq0.false ∙ c.loop-name.invariant.1
+    sym (some_order ns held (grind (arith, nat_tests)) ∙ c.loop-name.invariant.1
     ∙ walk_end held ns c.loop-name.name-index c.loop-name.at (length c.args.head.now) c.loop-name-test.false (omega (arith, long, within)) (sym long))

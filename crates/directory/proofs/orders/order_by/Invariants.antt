@@ -1,6 +1,6 @@
-use Rattle.std.proofs.Common.{◌≡◌, ◌++◌, map, take, drop}
+use Rattle.std.proofs.Common.{◌≡◌, map, take}
 use Rattle.directory.specs.Operation.{pick}
 use Rattle.directory.proofs.orders.order_by.Given as goal
 
-abbrev pub invariant-loop-i : goal.invariant-loop-i
-invariant-loop-i l = l.cars ≡ map (pick l.head) (take l.i l.confirmed) ++ drop l.i l.initial.cars
+abbrev pub invariant-loop-name : goal.invariant-loop-name
+invariant-loop-name l = l.cars.items ≡ map (pick l.head) (take l.name-index l.confirmed)
