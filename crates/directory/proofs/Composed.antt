@@ -1,5 +1,5 @@
 -- The tables and the written bytes are the composition; and the checks in their order.
-use Rattle.std.proofs.Common.{◌≡◌, ℕ, zero, suc, ◌+◌, ◌-◌, ◌*◌, ◌<◌, ◌≤◌, true, false, leb, List, [], ◌∷◌, ◌++◌, map, length, take, Some, None, Option, sym, refl, ap, ◌∙◌, ap₂, arith}
+use Rattle.std.proofs.Common.{◌≡◌, ℕ, zero, suc, ◌+◌, ◌-◌, ◌*◌, ◌<◌, ◌≤◌, Bool, true, false, cond, ◌==◌, leb, List, [], ◌∷◌, ◌++◌, map, length, take, Some, None, Option, sym, refl, ap, ◌∙◌, ap₂, arith}
 use Rattle.std.proofs.lemmas.List.{length-map}
 use Rattle.std.proofs.lemmas.Bool.{le-leb, lt-leb, cond-true, cond-false}
 use Rattle.train.specs.declared.entries.Coupled.{Coupled}
@@ -20,8 +20,10 @@ use Rattle.directory.specs.Cars.{train, met, turned_car}
 use Rattle.directory.specs.Operation.{orientation, from_head, operational}
 use Rattle.directory.specs.Composing.{checks, formation_checks, train_checks, order_checks, room_check}
 use Rattle.directory.specs.Rows.{train_row, consist_row, vehicle_row, train_row_of, consist_row_of, vehicle_row_of}
-use Rattle.directory.specs.Sections.{section, firsts, seats, nobody, status, size, composition, entry_row, train_part}
-use Rattle.directory.specs.Whole.{whole_of}
+use Rattle.directory.specs.Sections.{section, firsts, seats, nobody, four, size, composition, entry_row, train_part, operational_part}
+use Rattle.directory.specs.declared.writing.Status.TheVariants.{Unconfirmed, Confirmed}
+use Rattle.directory.specs.Whole.{whole_of, status_code, standing}
+use Rattle.sc32.specs.Checksum.{checksum}
 use Rattle.directory.specs.Written.{Written}
 use Rattle.directory.proofs.Behind.{front}
 use Rattle.directory.proofs.Runs.{length-seats}
@@ -42,7 +44,11 @@ text_of h m es cs tr =
     whole_of h (section train_row (map (train_row_of m) es)) (section consist_row (map (consist_row_of es) (firsts nobody cs)) ++ section vehicle_row (map (vehicle_row_of tr) (seats 0 nobody cs)))
 
 abbrev pub head_of : Facts → Head
-head_of f = record { orientation = code (orientation f); status = status f; etb = f.etb }
+head_of f = record { orientation = orientation f; status = standing f; etb = f.etb }
+
+status_told : (b : Bool) → status_code (cond b Unconfirmed Confirmed) ≡ cond b 1 2
+status_told true = refl
+status_told false = refl
 
 module _ (f : Facts) (m : Meaning) where
   whole_text : text_of (head_of f) m f.formation (operational f m) (train m f.claims f.formation) ≡ composition f m
@@ -50,7 +56,11 @@ module _ (f : Facts) (m : Meaning) where
       let one : section train_row (map (train_row_of m) f.formation) ≡ train_part f m = section-map train_row (entry_row m) (train_row_of m) (λ n x. refl) f.formation in
       let two = section-map consist_row _ (consist_row_of f.formation) (λ n x. refl) (firsts nobody (operational f m)) in
       let three = section-map vehicle_row _ (vehicle_row_of (train m f.claims f.formation)) (λ n x. refl) (seats 0 nobody (operational f m)) in
+      let told = status_told (0 == length f.confirmed) in
+      let first = train_part f m in
+      let rest = operational_part f m in
       ap₂ (whole_of (head_of f)) one (ap₂ (λ a b. a ++ b) two three)
+      ∙ ap (λ s. ((1 ∷ 0 ∷ code (orientation f) ∷ s ∷ []) ++ (four f.etb ++ (four (checksum f.etb first) ++ four (checksum (checksum f.etb first) rest)))) ++ (first ++ rest)) told
 
   pub same_whole : (h : Head) (es : List Coupled) (cs tr : List Car) → h ≡ head_of f → es ≡ f.formation → cs ≡ operational f m → tr ≡ train m f.claims f.formation
       → text_of h m es cs tr ≡ composition f m

@@ -6,8 +6,8 @@ ghost use Rattle.bench.specs.Shown.{shown};
 ghost use Rattle.directory.specs.Cars.{met, train as train_of, turned_car};
 ghost use Rattle.directory.specs.Operation.{ordered, operational, orientation as orientation_of};
 ghost use Rattle.directory.specs.Composing.{formation_checks, train_checks, order_checks, room_check, checks as checks_of};
-ghost use Rattle.directory.specs.Sections.{composition, status as status_of};
-ghost use Rattle.train.specs.Facings.{code};
+ghost use Rattle.directory.specs.Sections.{composition};
+ghost use Rattle.directory.specs.Whole.{standing};
 ghost use Rattle.directory.specs.Written.{Written};
 
 use crate::cars::{Car, Cars, MOST};
@@ -16,7 +16,7 @@ use crate::loading::{consists_present, load_train, train_length};
 use crate::orders::{copied, in_order, names_apart, order_by};
 use crate::rows::{ConsistRow, TrainRow, VehicleRow};
 use crate::tables::{consist_rows, train_rows, vehicle_rows};
-use crate::writing::{Head, write_whole};
+use crate::writing::{Head, Status, write_whole};
 use bench::state::Bench;
 use fleet::questions::Fleet;
 use train::checks::require;
@@ -85,19 +85,23 @@ fn check_order(bench: &Bench, head: &[Car]) -> Result<Cars, Refusal>
     Ok(cars)
 }
 
-/// 1 unconfirmed, 2 confirmed.
-fn status(bench: &Bench) -> u8
-    ensures { result ≡ status_of (shown bench.now) }
+/// Confirmed where a vehicle list stands.
+fn status(bench: &Bench) -> Status
+    ensures { result ≡ standing (shown bench.now) }
 {
-    if bench.confirmed().len() == 0 { 1 } else { 2 }
+    if bench.confirmed().is_empty() {
+        Status::Unconfirmed
+    } else {
+        Status::Confirmed
+    }
 }
 
 /// What the header says besides its sections' counters.
 fn head_of(bench: &Bench) -> Head
-    ensures { result ≡ record { orientation = code (orientation_of (shown bench.now)); status = status_of (shown bench.now); etb = (shown bench.now).etb } }
+    ensures { result ≡ record { orientation = orientation_of (shown bench.now); status = standing (shown bench.now); etb = (shown bench.now).etb } }
 {
     Head {
-        orientation: orientation(bench).number(),
+        orientation: orientation(bench),
         status: status(bench),
         etb: bench.etb_counter(),
     }

@@ -8,6 +8,7 @@ ghost use Rattle.directory.specs.Written.{Written};
 
 use crate::rows::{ConsistRow, TrainRow, VehicleRow, write_section};
 use sc32::sc32;
+use train::facing::Facing;
 
 /// Four bytes at the front.
 fn write_four(bytes: [u8; 4], out: &mut [u8]) -> usize
@@ -19,11 +20,18 @@ fn write_four(bytes: [u8; 4], out: &mut [u8]) -> usize
     4
 }
 
+/// Whether the vehicle list is confirmed.
+#[derive(Clone, Copy)]
+pub(crate) enum Status {
+    Unconfirmed = 1,
+    Confirmed = 2,
+}
+
 /// What the header says besides the counters of its sections.
 #[derive(Clone, Copy)]
 pub(crate) struct Head {
-    pub orientation: u8,
-    pub status: u8,
+    pub orientation: Facing,
+    pub status: Status,
     pub etb: u32,
 }
 
@@ -32,7 +40,8 @@ fn write_header(head: Head, train_counter: u32, operational_counter: u32, out: &
     requires { 16 ≤ length out.old }
     ensures { Written (header_of head train_counter operational_counter) out.old 16 out.new }
 {
-    let mut at = write_four([1, 0, head.orientation, head.status], out);
+    let orientation = u8::from(head.orientation);
+    let mut at = write_four([1, 0, orientation, head.status as u8], out);
     at += write_four(head.etb.to_be_bytes(), &mut out[at..]);
     at += write_four(train_counter.to_be_bytes(), &mut out[at..]);
     let _ = write_four(operational_counter.to_be_bytes(), &mut out[at..]);
