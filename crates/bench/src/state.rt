@@ -1,22 +1,21 @@
 // The state of a bench.
-ghost use Rattle.std.specs.Prelude.{◌≤◌};
-
-use crate::claims::Claims;
+use crate::claims::Claim;
+use arrayvec::ArrayVec;
 use train::entries::Coupled;
 use train::name::Name;
 
 mod ops;
 mod questions;
 
-/// The first `count` entries are the formation, the first `listed` names the confirmed list.
+/// The most entries of a formation, and names of a confirmed list.
+pub const MOST: usize = 63;
+
+/// What one train's inauguration, claims and confirmed list are. The claims stand at the places of their consists in
+/// the formation.
 #[derive(Drop)]
 pub struct Bench {
     pub(crate) etb: u32,
-    pub(crate) formation: [Coupled; 63],
-    pub(crate) count: usize,
-    pub(crate) claims: Claims,
-    pub(crate) confirmed: [Name; 63],
-    pub(crate) listed: usize,
-    ghost counted: { count ≤ 63 },
-    ghost noted: { listed ≤ 63 },
+    pub(crate) formation: ArrayVec<Coupled, MOST>,
+    pub(crate) claims: [Option<Claim>; MOST],
+    pub(crate) confirmed: ArrayVec<Name, MOST>,
 }

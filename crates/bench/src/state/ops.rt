@@ -1,7 +1,7 @@
 // The calls of a bench.
 ghost use Rattle.std.specs.Prelude.{◌≡◌, ◌<◌, ◌≤◌, true, false, ◌&&◌, length, IfOk, OnOk};
 ghost use Rattle.train.specs.Refusals.{refusal, refusal_of, breach, must};
-ghost use Rattle.train.specs.declared.refusal.Reason.TheVariants.{ClaimRange};
+ghost use Rattle.train.specs.declared.refusal.Reason.TheVariants.{ClaimRange, EntryCount};
 ghost use Rattle.train.specs.declared.refusal.Part.TheVariants.{Bench as OfBench};
 ghost use Rattle.bench.specs.Calls.{Call};
 ghost use Rattle.bench.specs.Facts.{nothing, checks as checks_of, place_checks, list_checks, after, coupled_in, directed, within, some, Place};
@@ -9,7 +9,8 @@ ghost use Rattle.bench.specs.Shown.{shown};
 
 use super::questions::place_of;
 use super::*;
-use crate::claims::{Claim, FREE};
+use crate::claims::Claim;
+use arrayvec::ArrayVec;
 use train::checks::{
     facings_known, identities_well_formed, labels_apart, names_well_formed, require,
 };
@@ -17,34 +18,43 @@ use train::facing::Facing;
 use train::identity::Identity;
 use train::refusal::{Part, Reason, Refusal};
 
-/// The most entries of a formation, and names of a confirmed list.
-const MOST: usize = 63;
-
 /// The last number that a vehicle of a consist can have.
 const LAST: u8 = 32;
 
-/// The checks of a formation and its counter.
-fn check_formation(etb: u32, formation: &[Coupled]) -> Result<(), Refusal>
+/// A list of entries, where there are some and not too many.
+fn listed<T: Copy + Default>(entries: &[T]) -> Result<ArrayVec<T, MOST>, Refusal>
+    ensures answer { refusal_of result ≡ breach OfBench (must (within 1 63 (length entries.now)) EntryCount) }
+    ensures list { IfOk result (λ list. list.items ≡ entries.now) }
+{
+    require(Part::Bench, !entries.is_empty(), Reason::EntryCount)?;
+    match ArrayVec::try_from(entries) {
+        Ok(list) => Ok(list),
+        Err(_) => Err(Refusal::at(Part::Bench, Reason::EntryCount, 0)),
+    }
+}
+
+/// The formation, where it and its counter pass the checks.
+fn check_formation(etb: u32, formation: &[Coupled]) -> Result<ArrayVec<Coupled, MOST>, Refusal>
     ensures answer { refusal_of result ≡ refusal OfBench (checks_of nothing (Call.inaugurate etb formation.now)) }
-    ensures fits { OnOk result (length formation.now ≤ 63) }
+    ensures list { IfOk result (λ list. list.items ≡ formation.now) }
 {
     identities_well_formed(Part::Bench, formation)?;
     require(Part::Bench, etb > 0, Reason::ZeroCounter)?;
-    let count = formation.len();
-    require(Part::Bench, count >= 1 && count <= MOST, Reason::EntryCount)?;
+    let list = listed(formation)?;
     facings_known(Part::Bench, formation)?;
-    labels_apart(Part::Bench, formation)
+    labels_apart(Part::Bench, formation)?;
+    Ok(list)
 }
 
-/// The checks of a confirmed list.
-fn check_list(names: &[Name]) -> Result<(), Refusal>
+/// The confirmed list, where it passes the checks.
+fn check_list(names: &[Name]) -> Result<ArrayVec<Name, MOST>, Refusal>
     ensures answer { refusal_of result ≡ refusal OfBench (list_checks names.now) }
-    ensures fits { OnOk result (length names.now ≤ 63) }
+    ensures list { IfOk result (λ list. list.items ≡ names.now) }
 {
-    let count = names.len();
-    require(Part::Bench, count >= 1 && count <= MOST, Reason::EntryCount)?;
+    let list = listed(names)?;
     names_well_formed(Part::Bench, names)?;
-    labels_apart(Part::Bench, names)
+    labels_apart(Part::Bench, names)?;
+    Ok(list)
 }
 
 /// The claim of a vehicle and a direction, where both are in range.
@@ -57,15 +67,8 @@ fn claim_for(vehicle: u8, direction: u8) -> Result<Claim, Refusal>
         vehicle >= 1 && vehicle <= LAST,
         Reason::ClaimRange,
     )?;
-    match direction {
-        1 => Ok(Claim {
-            vehicle,
-            direction: Facing::Direct,
-        }),
-        2 => Ok(Claim {
-            vehicle,
-            direction: Facing::Inverse,
-        }),
+    match Facing::try_from(direction) {
+        Ok(direction) if direction.is_known() => Ok(Claim { vehicle, direction }),
         _ => Err(Refusal::at(Part::Bench, Reason::ClaimRange, 0)),
     }
 }
@@ -93,13 +96,10 @@ impl Bench {
         ensures answer { refusal_of result ≡ refusal OfBench (checks_of (shown self.old) (Call.inaugurate etb formation.now)) }
         ensures facts { shown self.new ≡ after (shown self.old) (Call.inaugurate etb formation.now) }
     {
-        check_formation(etb, formation)?;
-        let count = formation.len();
-        self.formation[0..count].copy_from_slice(formation);
-        self.count = count;
+        self.formation = check_formation(etb, formation)?;
         self.etb = etb;
-        self.claims = Claims::none();
-        self.listed = 0;
+        self.claims = [None; MOST];
+        self.confirmed.clear();
         Ok(())
     }
 
@@ -110,7 +110,7 @@ impl Bench {
     {
         let place = self.place_for(&identity)?;
         let claim = claim_for(vehicle, direction)?;
-        self.claims.set(place, claim);
+        self.claims[place] = Some(claim);
         Ok(())
     }
 
@@ -120,9 +120,12 @@ impl Bench {
         ensures facts { shown self.new ≡ after (shown self.old) (Call.yield identity) }
     {
         let place = self.place_for(&identity)?;
-        let held = self.claims.at(place);
-        require(Part::Bench, held.is_some(), Reason::NothingStands)?;
-        self.claims.set(place, FREE);
+        require(
+            Part::Bench,
+            self.claims[place].is_some(),
+            Reason::NothingStands,
+        )?;
+        self.claims[place] = None;
         Ok(())
     }
 
@@ -131,11 +134,9 @@ impl Bench {
         ensures answer { refusal_of result ≡ refusal OfBench (checks_of (shown self.old) (Call.confirm names.now)) }
         ensures facts { shown self.new ≡ after (shown self.old) (Call.confirm names.now) }
     {
-        check_list(names)?;
+        let list = check_list(names)?;
         require(Part::Bench, self.is_formed(), Reason::NoFormation)?;
-        let count = names.len();
-        self.confirmed[0..count].copy_from_slice(names);
-        self.listed = count;
+        self.confirmed = list;
         Ok(())
     }
 
@@ -147,10 +148,10 @@ impl Bench {
         require(Part::Bench, self.is_formed(), Reason::NoFormation)?;
         require(
             Part::Bench,
-            self.confirmed().len() >= 1,
+            !self.confirmed.is_empty(),
             Reason::NothingStands,
         )?;
-        self.listed = 0;
+        self.confirmed.clear();
         Ok(())
     }
 }

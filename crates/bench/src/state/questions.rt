@@ -5,19 +5,15 @@ ghost use Rattle.bench.specs.Shown.{shown};
 
 use super::*;
 use crate::claims::Claim;
-use train::facing::Facing;
 use train::identity::Identity;
 
 /// The place of a consist in a formation.
 pub(crate) fn place_of(formation: &[Coupled], identity: &Identity) -> Option<usize>
     ensures { MatchOption result (coupled_in identity.now formation.now ≡ false) (λ i. Place identity.now formation.now i) }
 {
-    for (i, entry) in formation.iter().enumerate() {
-        if *identity == entry.identity {
-            return Some(i);
-        }
-    }
-    None
+    formation
+        .iter()
+        .position(|entry| *identity == entry.identity)
 }
 
 impl Bench {
@@ -25,17 +21,11 @@ impl Bench {
     pub fn new() -> Bench
         ensures { shown result ≡ nothing }
     {
-        let identity = Identity { bytes: [0; 16] };
         Bench {
             etb: 0,
-            formation: [Coupled {
-                identity,
-                facing: Facing::NotKnown,
-            }; 63],
-            count: 0,
-            claims: Claims::none(),
-            confirmed: [Name { bytes: [0; 16] }; 63],
-            listed: 0,
+            formation: ArrayVec::new(),
+            claims: [None; MOST],
+            confirmed: ArrayVec::new(),
         }
     }
 
@@ -44,8 +34,7 @@ impl Bench {
         ensures value { result.now ≡ (shown self.now).formation }
         ensures few { length result.now ≤ 63 }
     {
-        let count = self.count;
-        &self.formation[0..count]
+        self.formation.as_slice()
     }
 
     /// The names of the confirmed list; none where no list stands.
@@ -53,8 +42,7 @@ impl Bench {
         ensures value { result.now ≡ (shown self.now).confirmed }
         ensures few { length result.now ≤ 63 }
     {
-        let listed = self.listed;
-        &self.confirmed[0..listed]
+        self.confirmed.as_slice()
     }
 
     /// The ETB counter; 0 where no formation stands.
@@ -67,16 +55,14 @@ impl Bench {
     pub(crate) fn is_formed(&self) -> bool
         ensures { result ≡ some (shown self.now).formation }
     {
-        self.formation().len() >= 1
+        !self.formation.is_empty()
     }
 
     /// The claim of a consist, if one stands.
     pub fn claim_of(&self, identity: &Identity) -> Option<Claim>
         ensures { result ≡ (shown self.now).claims identity.now }
     {
-        match place_of(self.formation(), identity) {
-            Some(place) => self.claims.at(place),
-            None => None,
-        }
+        let place = place_of(self.formation(), identity)?;
+        self.claims[place]
     }
 }

@@ -1,23 +1,19 @@
-use Rattle.std.proofs.Common.{sym, ap, ◌∙◌, arith}
-use Rattle.bench.specs.Facts.{coupled_in}
-use Rattle.bench.specs.Table.{kept}
+use Rattle.std.proofs.Common.{◌≡◌, ◌≤◌, length, None, sym, ap, ◌∙◌, subst, rules}
+use Rattle.bench.specs.Facts.{coupled_in, Place}
 use Rattle.bench.proofs.Places.{kept_none}
 use Rattle.bench.proofs.Acts.{claim_read}
 use Rattle.bench.proofs.state.Bench.claim_of.Goals as goal
 
-pub at-requires : goal.at-requires
-at-requires c = omega (arith, c.in-Some.ensures.inside, c.formation.ensures.few)
-
-pub returns-in-Some : goal.returns-in-Some
-returns-in-Some c =
+pub returns-in_err-place : goal.returns-in_err-place
+returns-in_err-place c =
     let x = c.args.identity.now in
-    let table = c.args.self.now.claims.table in
-    c.at.ensures.value
-    ∙ claim_read x c.formation.result.now table c.in-Some.place c.in-Some.ensures c.formation.ensures.few c.at.ensures.long _
-    ∙ ap (λ es. kept es table x) c.formation.ensures.value
+    let b = c.args.self.now in
+    c.from_residual.ensures ∙ sym (kept_none x b.formation.items b.claims (ap (coupled_in x) (sym c.formation.ensures.value) ∙ c.in_err-place.ensures))
 
-pub returns-in-None : goal.returns-in-None
-returns-in-None c =
+pub returns : goal.returns
+returns c =
     let x = c.args.identity.now in
-    let table = c.args.self.now.claims.table in
-    sym (kept_none x _ table (ap (coupled_in x) (sym c.formation.ensures.value) ∙ c.in-None.ensures))
+    let b = c.args.self.now in
+    let long : length b.claims ≡ 63 = search rules in
+    claim_read x b.formation.items b.claims c.in_ok-place.place (subst (λ es. Place x es c.in_ok-place.place) c.formation.ensures.value c.in_ok-place.ensures)
+    (subst (λ es. length es ≤ 63) c.formation.ensures.value c.formation.ensures.few) long None
