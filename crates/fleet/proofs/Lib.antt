@@ -4,3 +4,4 @@ pub mod Crowds
 pub mod Answered
 pub mod Identified
 pub mod Holds
+pub mod Gets

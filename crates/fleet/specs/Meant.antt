@@ -4,4 +4,4 @@ use Rattle.fleet.specs.Fleets.{Meaning}
 use Rattle.fleet.specs.Seats.{meaning_in}
 
 abbrev pub meant : Roster → Meaning
-meant r = meaning_in r.seats
+meant r = meaning_in r.seats.items

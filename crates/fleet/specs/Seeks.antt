@@ -1,11 +1,11 @@
 -- The first place in a list, counted from n, at which a test holds.
-use Rattle.std.specs.Prelude.{ℕ, ◌+◌, Bool, cond, List, [], ◌∷◌, Some, None, Option}
+use Rattle.std.specs.Prelude.{ℕ, Bool, List, Option}
+use Rattle.std.specs.List.{position_from}
 use Rattle.std.specs.Str.{bytes_eq}
 use Rattle.fleet.specs.Rows.{identity_of}
 
 abbrev pub find : {A : Type 0} → (A → Bool) → ℕ → List A → Option ℕ
-find test n [] = None
-find test n (x ∷ xs) = cond (test x) (Some n) (find test (n + 1) xs)
+find test n xs = position_from test n xs
 
 -- a row has this identity
 abbrev pub is_at : List ℕ → List ℕ → Bool

@@ -1,27 +1,33 @@
-// The roster: 63 seats for consists that are announced.
-ghost use Rattle.std.specs.Prelude.{◌≡◌, true, length};
+// The roster: at most 63 consists that are announced.
+ghost use Rattle.std.specs.Prelude.{◌≡◌, ◌≤◌, true, length};
 ghost use Rattle.fleet.specs.Seats.{sound_seats, apart_seats};
 
+use arrayvec::ArrayVec;
 use train::entries::Vehicle;
 use train::identity::Identity;
 
 pub mod calls;
 mod seats;
 
-/// A seat of the roster; with no vehicles it is free.
-#[derive(Clone, Copy)]
+/// The most vehicles of a consist.
+const VEHICLES: usize = 32;
+
+/// The most consists of a roster.
+const CONSISTS: usize = 63;
+
+/// A consist that is announced.
+#[derive(Default, Drop)]
 struct Seat {
     identity: Identity,
     counter: u32,
-    count: usize,
-    vehicles: [Vehicle; 32],
+    vehicles: ArrayVec<Vehicle, VEHICLES>,
 }
 
 /// The consists that were announced and not forgotten.
 #[derive(Drop)]
 pub struct Roster {
-    seats: [Seat; 63],
-    ghost whole: { length seats ≡ 63 },
-    ghost sound: { sound_seats seats ≡ true },
-    ghost apart: { apart_seats seats ≡ true },
+    seats: ArrayVec<Seat, CONSISTS>,
+    ghost few: { length seats.items ≤ 63 },
+    ghost sound: { sound_seats seats.items ≡ true },
+    ghost apart: { apart_seats seats.items ≡ true },
 }

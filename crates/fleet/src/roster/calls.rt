@@ -10,20 +10,17 @@ ghost use Rattle.fleet.specs.Sound.{sound_means};
 use super::seats::*;
 use super::*;
 use crate::questions::{Fleet, Found, Meant};
-use train::refusal::{Reason, Refusal};
+use train::checks::require;
+use train::refusal::{Part, Reason, Refusal};
 
 impl Roster {
     /// A roster without consists.
     pub fn new() -> Roster
         ensures { (id : Id) → meant result id ≡ None }
     {
-        let seat = Seat {
-            identity: Identity { bytes: [0; 16] },
-            counter: 0,
-            count: 0,
-            vehicles: [NO_VEHICLE; 32],
-        };
-        Roster { seats: [seat; 63] }
+        Roster {
+            seats: ArrayVec::new(),
+        }
     }
 
     /// Sets a consist, or replaces the one of this identity.
@@ -36,11 +33,18 @@ impl Roster {
         ensures answer { Announces (meant self.old) identity counter vehicles.now (refusal_of result) }
         ensures after { MatchResult result (λ _. (other : Id) → meant self.new other ≡ announced identity (record { counter = counter; vehicles = vehicles.now }) (meant self.old) other) (λ _. self.new ≡ self.old) }
     {
-        checked(&identity, counter, vehicles)?;
-        let Some(at) = seat_for(&self.seats, &identity) else {
-            return Err(refuse(Reason::RosterFull));
+        let seat = Seat {
+            identity,
+            counter,
+            vehicles: checked(&identity, counter, vehicles)?,
         };
-        self.seats[at] = filled(identity, counter, vehicles);
+        match place_of(self.seats.as_slice(), &identity) {
+            Some(at) => self.seats[at] = seat,
+            None => {
+                require(Part::Roster, !self.seats.is_full(), Reason::RosterFull)?;
+                self.seats.push(seat);
+            }
+        }
         Ok(())
     }
 
@@ -49,13 +53,10 @@ impl Roster {
         ensures answer { refusal_of result ≡ refusal InRoster (forget_checks (meant self.old) identity.now) }
         ensures after { MatchResult result (λ _. (other : Id) → meant self.new other ≡ forgotten identity.now (meant self.old) other) (λ _. self.new ≡ self.old) }
     {
-        if identity.is_zero() {
-            return Err(refuse(Reason::IdentityOrder));
-        }
-        if place_of(&self.seats, identity).is_none() {
-            return Err(refuse(Reason::NotPresent));
-        }
-        clear(&mut self.seats, identity);
+        require(Part::Roster, !identity.is_zero(), Reason::IdentityOrder)?;
+        let place = place_of(self.seats.as_slice(), identity);
+        require(Part::Roster, place.is_some(), Reason::NotPresent)?;
+        self.seats.retain(|seat| seat.identity != *identity);
         Ok(())
     }
 }
@@ -63,26 +64,23 @@ impl Roster {
 impl Meant for Roster {
     ghost meaning = { λ r id. meant r id };
 
-    ghost lawful = { λ r id. sound_means r.seats id r.sound };
+    ghost lawful = { λ r id. sound_means r.seats.items id r.sound };
 }
 
 impl Fleet for Roster {
     fn look_up(&self, identity: &Identity) -> Option<Found> {
-        let i = place_of(&self.seats, identity)?;
+        let seats = self.seats.as_slice();
+        let seat = &seats[place_of(seats, identity)?];
         Some(Found {
-            counter: self.seats[i].counter,
-            count: self.seats[i].count as u8,
+            counter: seat.counter,
+            count: seat.vehicles.len() as u8,
         })
     }
 
     fn vehicle(&self, identity: &Identity, k: u8) -> Option<Vehicle> {
-        let i = place_of(&self.seats, identity)?;
-        if k == 0 {
-            return None;
-        }
-        if k as usize > self.seats[i].count {
-            return None;
-        }
-        Some(self.seats[i].vehicles[k as usize - 1])
+        let seats = self.seats.as_slice();
+        let seat = &seats[place_of(seats, identity)?];
+        let at = usize::from(k).checked_sub(1)?;
+        seat.vehicles.as_slice().get(at).copied()
     }
 }

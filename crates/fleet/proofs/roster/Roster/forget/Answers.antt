@@ -1,40 +1,43 @@
-use Rattle.std.proofs.Common.{◌≡◌, true, false, not, List, length, is_some, Some, sym, refl, ap, ◌∙◌, subst}
-use Rattle.std.specs.Str.{bytes_eq}
-use Rattle.std.proofs.lemmas.List.{length-map}
-use Rattle.train.specs.Octets.{zeros}
+use Rattle.std.proofs.Common.{rules, ◌≡◌, true, List, filter, is_some, sym, ap, ◌∙◌, subst, arith}
+use Rattle.arrayvec.proofs.ArrayVecLemmas.{filter-from_retain}
 use Rattle.fleet.specs.declared.roster.Seat.{Seat}
-use Rattle.fleet.specs.Seats.{meaning_in, sound_seats, apart_seats, cleared}
-use Rattle.fleet.specs.Changes.{absent, clear_means}
-use Rattle.fleet.specs.Sound.{sound_clear}
-use Rattle.fleet.proofs.Crowds.{apart_clear}
+use Rattle.fleet.specs.Seats.{elsewhere, meaning_in, sound_seats, apart_seats}
+use Rattle.fleet.specs.Changes.{absent, leave_means}
+use Rattle.fleet.specs.Sound.{sound_filter}
+use Rattle.fleet.proofs.Crowds.{apart_filter}
 use Rattle.fleet.proofs.roster.Roster.forget.Goals as goal
 
-pub returns-then-is_none : goal.returns-then-is_none
-returns-then-is_none c =
+pub returns-in_err-require-2-clause-answer : goal.returns-in_err-require-2-clause-answer
+returns-in_err-require-2-clause-answer c =
     let id = c.args.identity.now in
-    let ss = c.args.self.now.seats in
-    let z : not (bytes_eq id.bytes zeros) ≡ true = ap not (sym c.if-is_zero.ensures) in
-    let s : is_some (meaning_in ss id) ≡ false = sym (absent id 0 ss) ∙ ap is_some (sym c.place_of.ensures.found) ∙ c.if-is_none.ensures in
-    record { answer = ap (λ x. Some x) c.refuse-then-is_none.ensures ∙ sym (rw (z, s) refl); after = refl }
+    let e : c.is_some.result ≡ is_some (meaning_in c.args.self.now.seats.items id) =
+    c.is_some.ensures ∙ ap is_some c.place_of-place.ensures.found ∙ absent id 0 _ ∙ ap (λ ss. is_some (meaning_in ss id)) c.as_slice.ensures.value in
+    search rules
 
-pub returns : goal.returns
-returns c =
+pub returns-clause-answer : goal.returns-clause-answer
+returns-clause-answer c =
     let id = c.args.identity.now in
-    let ss = c.args.self.now.seats in
-    let z : not (bytes_eq id.bytes zeros) ≡ true = ap not (sym c.if-is_zero.ensures) in
-    let s : is_some (meaning_in ss id) ≡ true = sym (absent id 0 ss) ∙ ap is_some (sym c.place_of.ensures.found) ∙ c.if-is_none.ensures in
-    record {
-      answer = sym (rw (z, s) refl);
-      after = λ other. ap (λ (x : List Seat). meaning_in x other) c.clear.ensures ∙ clear_means id other ss;
-    }
+    let e : c.is_some.result ≡ is_some (meaning_in c.args.self.now.seats.items id) =
+    c.is_some.ensures ∙ ap is_some c.place_of-place.ensures.found ∙ absent id 0 _ ∙ ap (λ ss. is_some (meaning_in ss id)) c.as_slice.ensures.value in
+    search rules
 
 pub invariant_of-self : goal.invariant_of-self
 invariant_of-self c =
     let id = c.args.identity.now in
     let r = c.args.self.now in
-    let e = sym c.clear.ensures in
+    let left : c.retain.new.self.items ≡ filter (elsewhere id) r.seats.items =
+    filter-from_retain _ (elsewhere id) _ (λ s b f' y k. (search rules, search rules, search rules)) r.seats.items c.retain.new.self.items c.retain.ensures.filtered in
+    let e = sym left in
     record {
-      whole = subst (λ (x : List Seat). length x ≡ 63) e (length-map r.seats (cleared id) ∙ r.whole);
-      sound = subst (λ (x : List Seat). sound_seats x ≡ true) e (sound_clear id r.seats r.sound);
-      apart = subst (λ (x : List Seat). apart_seats x ≡ true) e (apart_clear id r.seats r.apart);
+      few = let b = c.retain.ensures.bound in let f = r.few in omega arith;
+      sound = subst (λ (ss : List Seat). sound_seats ss ≡ true) e (sound_filter (elsewhere id) r.seats.items r.sound);
+      apart = subst (λ (ss : List Seat). apart_seats ss ≡ true) e (apart_filter id r.seats.items r.apart);
     }
+
+pub returns-clause-after : goal.returns-clause-after
+returns-clause-after c = λ other.
+    let id = c.args.identity.now in
+    let r = c.args.self.now in
+    let left : c.retain.new.self.items ≡ filter (elsewhere id) r.seats.items =
+    filter-from_retain _ (elsewhere id) _ (λ s b f' y k. (search rules, search rules, search rules)) r.seats.items c.retain.new.self.items c.retain.ensures.filtered in
+    ap (λ (ss : List Seat). meaning_in ss other) left ∙ leave_means id other r.seats.items
