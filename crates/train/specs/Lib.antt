@@ -5,3 +5,4 @@ pub mod Identities
 pub mod Names
 pub mod Refusals
 pub mod Turning
+pub mod Words
