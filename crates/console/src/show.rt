@@ -1,4 +1,7 @@
 // How answers are printed.
+ghost use Rattle.std.specs.Prelude.{Some};
+ghost use Rattle.console.specs.Texts.{byte_text, hex_text, refused_text, side_text, written_text, outcome_text, filled_text, entry_text, formation_text, likeness_text, comparison_text, answer_text};
+
 use crate::answers::{Answer, Filled, Written};
 use crate::command::Side;
 use directory::comparing::{Comparison, LeadingEnds, Likeness};
@@ -8,14 +11,30 @@ use std::fmt;
 use train::entries::{Coupled, Vehicle};
 use train::refusal::Refusal;
 
+/// A byte as two hex digits.
+#[derive(Clone, Copy)]
+struct HexByte(u8);
+
+impl fmt::Display for HexByte {
+    ghost output = { λ byte. Some (byte_text byte.0) };
+
+    #[tactic(auto, using(std::proofs::lemmas::Fmt::hex_byte))]
+    fn fmt<W: fmt::Write>(&self, f: &mut fmt::Formatter<W>) -> fmt::Result {
+        let byte = self.0;
+        write!(f, "{byte:02x}")
+    }
+}
+
 /// Bytes as hex digits.
 #[derive(Clone, Copy)]
 struct Hex<'a>(&'a [u8]);
 
 impl fmt::Display for Hex<'_> {
+    ghost output = { λ hex. Some (hex_text hex.0.now) };
+
     fn fmt<W: fmt::Write>(&self, f: &mut fmt::Formatter<W>) -> fmt::Result {
         for byte in self.0 {
-            write!(f, "{byte:02x}")?;
+            write!(f, "{}", HexByte(*byte))?;
         }
         Ok(())
     }
@@ -26,6 +45,8 @@ impl fmt::Display for Hex<'_> {
 pub struct Refused(pub Refusal);
 
 impl fmt::Display for Refused {
+    ghost output = { λ refused. Some (refused_text refused.0) };
+
     fn fmt<W: fmt::Write>(&self, f: &mut fmt::Formatter<W>) -> fmt::Result {
         let Refusal {
             part,
@@ -37,6 +58,8 @@ impl fmt::Display for Refused {
 }
 
 impl fmt::Display for Side {
+    ghost output = { λ side. Some (side_text side) };
+
     fn fmt<W: fmt::Write>(&self, f: &mut fmt::Formatter<W>) -> fmt::Result {
         match self {
             Side::Left => write!(f, "1"),
@@ -46,6 +69,8 @@ impl fmt::Display for Side {
 }
 
 impl fmt::Display for Written {
+    ghost output = { λ written. Some (written_text written) };
+
     fn fmt<W: fmt::Write>(&self, f: &mut fmt::Formatter<W>) -> fmt::Result {
         match self {
             Written::Imported { length } => write!(f, "imported {length}"),
@@ -60,6 +85,8 @@ impl fmt::Display for Written {
 struct Outcome(Result<Written, Refusal>);
 
 impl fmt::Display for Outcome {
+    ghost output = { λ outcome. Some (outcome_text outcome.0) };
+
     fn fmt<W: fmt::Write>(&self, f: &mut fmt::Formatter<W>) -> fmt::Result {
         match self.0 {
             Ok(written) => write!(f, "{written}"),
@@ -69,6 +96,8 @@ impl fmt::Display for Outcome {
 }
 
 impl fmt::Display for Filled {
+    ghost output = { λ filled. Some (filled_text filled) };
+
     fn fmt<W: fmt::Write>(&self, f: &mut fmt::Formatter<W>) -> fmt::Result {
         write!(f, "{}\nbytes ", Outcome(self.outcome))?;
         match self.buffer.as_slice() {
@@ -83,9 +112,26 @@ impl fmt::Display for Filled {
 struct Entry<'a>(&'a Coupled);
 
 impl fmt::Display for Entry<'_> {
+    ghost output = { λ entry. Some (entry_text entry.0.now) };
+
     fn fmt<W: fmt::Write>(&self, f: &mut fmt::Formatter<W>) -> fmt::Result {
         let Coupled { identity, facing } = self.0;
         write!(f, "{}{facing}", Hex(&identity.bytes))
+    }
+}
+
+/// The entries of a formation, a space before each.
+#[derive(Clone, Copy)]
+struct Formation<'a>(&'a [Coupled]);
+
+impl fmt::Display for Formation<'_> {
+    ghost output = { λ formation. Some (formation_text formation.0.now) };
+
+    fn fmt<W: fmt::Write>(&self, f: &mut fmt::Formatter<W>) -> fmt::Result {
+        for entry in self.0 {
+            write!(f, " {}", Entry(entry))?;
+        }
+        Ok(())
     }
 }
 
@@ -94,6 +140,8 @@ impl fmt::Display for Entry<'_> {
 struct Alike(Likeness);
 
 impl fmt::Display for Alike {
+    ghost output = { λ alike. Some (likeness_text alike.0) };
+
     fn fmt<W: fmt::Write>(&self, f: &mut fmt::Formatter<W>) -> fmt::Result {
         let same = if self.0.same { "same" } else { "different" };
         let ends = match self.0.ends {
@@ -110,6 +158,8 @@ impl fmt::Display for Alike {
 struct Compared<'a>(&'a Comparison);
 
 impl fmt::Display for Compared<'_> {
+    ghost output = { λ compared. Some (comparison_text compared.0.now) };
+
     fn fmt<W: fmt::Write>(&self, f: &mut fmt::Formatter<W>) -> fmt::Result {
         let left = self.0.left.map(|length| Written::Composed { length });
         let right = self.0.right.map(|length| Written::Composed { length });
@@ -122,16 +172,12 @@ impl fmt::Display for Compared<'_> {
 }
 
 impl fmt::Display for Answer<'_> {
+    ghost output = { λ answer. Some (answer_text answer) };
+
     fn fmt<W: fmt::Write>(&self, f: &mut fmt::Formatter<W>) -> fmt::Result {
         match self {
             Answer::Done(word) => write!(f, "{word}"),
-            Answer::Turned(formation) => {
-                write!(f, "turned")?;
-                for entry in formation {
-                    write!(f, " {}", Entry(entry))?;
-                }
-                Ok(())
-            }
+            Answer::Turned(formation) => write!(f, "turned{}", Formation(formation)),
             Answer::Checksum(sum) => write!(f, "sc32 {sum:08x}"),
             Answer::Consist(Found { counter, count }) => write!(f, "consist {counter} {count}"),
             Answer::Vehicle(Vehicle { name, facing }) => {
