@@ -12,6 +12,8 @@ use Rattle.directory.specs.declared.comparing.LeadingEnds.{LeadingEnds}
 use Rattle.directory.specs.declared.comparing.LeadingEnds.TheVariants.{Same, Different, Unled}
 use Rattle.console.specs.declared.command.Side.{Side}
 use Rattle.console.specs.declared.command.Side.TheVariants.{Left, Right}
+use Rattle.console.specs.declared.command.Source.{Source}
+use Rattle.console.specs.declared.command.Source.TheVariants.{Book, Roster}
 use Rattle.console.specs.declared.answers.Written.{Written}
 use Rattle.console.specs.declared.answers.Written.TheVariants.{Imported, Exported, Composed}
 use Rattle.console.specs.declared.answers.Filled.{Filled}
@@ -40,6 +42,11 @@ abbrev pub written_text : Written → List ℕ
 written_text (Imported length) = codes "imported " ++ decimal length
 written_text (Exported length lines) = codes "exported " ++ (decimal length ++ (codes " " ++ decimal lines))
 written_text (Composed length) = codes "composed " ++ decimal length
+
+-- the word for a fleet of a desk
+abbrev pub source_text : Source → List ℕ
+source_text Book = codes "book"
+source_text Roster = codes "roster"
 
 -- what was written, or the refusal
 abbrev pub outcome_text : Result Written Refusal → List ℕ

@@ -1,4 +1,9 @@
 // What a console keeps from line to line.
+ghost use Rattle.std.specs.Prelude.{◌≡◌, IfOk, length, replicate};
+ghost use Rattle.fleet.specs.Fleets.{found_in, vehicle_in};
+ghost use Rattle.train.specs.declared.identity.Identity.{Identity as Id};
+ghost use Rattle.console.specs.Fleets.{meaning, meaning_at, consist_answer, vehicle_answer};
+
 use crate::answers::{Answer, Failure, Filled, Written};
 use crate::command::{DeskCommand, Source};
 use crate::fleets::DeskFleet;
@@ -42,7 +47,9 @@ impl<'a> Desk<'a> {
     }
 
     /// The fleet that a word names.
-    pub fn fleet(&self, source: Source) -> DeskFleet<'_> {
+    pub fn fleet(&self, source: Source) -> DeskFleet<'_>
+        ensures { (id : Id) → meaning result id ≡ meaning_at self.now source id }
+    {
         match source {
             Source::Book => DeskFleet::Book(&self.book),
             Source::Roster => DeskFleet::Roster(&self.roster),
@@ -107,14 +114,18 @@ impl<'a> Desk<'a> {
         Ok(Answer::Done("forgotten"))
     }
 
-    fn look_up(&self, source: Source, identity: &Identity) -> Answer<'a> {
+    fn look_up(&self, source: Source, identity: &Identity) -> Answer<'a>
+        ensures { result ≡ consist_answer (found_in (meaning_at self.now source identity.now)) }
+    {
         match self.fleet(source).look_up(identity) {
             Some(found) => Answer::Consist(found),
             None => Answer::Absent,
         }
     }
 
-    fn vehicle(&self, source: Source, identity: &Identity, k: u8) -> Answer<'a> {
+    fn vehicle(&self, source: Source, identity: &Identity, k: u8) -> Answer<'a>
+        ensures { result ≡ vehicle_answer (vehicle_in (meaning_at self.now source identity.now) k) }
+    {
         match self.fleet(source).vehicle(identity, k) {
             Some(vehicle) => Answer::Vehicle(vehicle),
             None => Answer::Absent,
@@ -176,6 +187,8 @@ fn filled<F: FnOnce(&mut [u8]) -> Result<Written, Refusal>>(
 }
 
 /// A buffer of so many bytes, each a5 hex.
-pub fn buffer(heap: Global, room: u16) -> Result<Vec<u8>, AllocError> {
+pub fn buffer(heap: Global, room: u16) -> Result<Vec<u8>, AllocError>
+    ensures { IfOk result (λ bytes. bytes.items ≡ replicate room 0xa5) }
+{
     vec![in heap; 0xa5; usize::from(room)]
 }
