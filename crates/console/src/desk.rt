@@ -56,6 +56,7 @@ impl<'a> Desk<'a> {
         }
     }
 
+    /// Carries out a command, or refuses it.
     pub fn answer(
         &mut self,
         heap: Global,

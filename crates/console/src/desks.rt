@@ -23,6 +23,7 @@ impl<'a> Desks<'a> {
         }
     }
 
+    /// Carries out a command, or refuses it.
     pub fn answer(&mut self, heap: Global, command: &'a Command) -> Result<Answer<'a>, Failure> {
         match command {
             Command::Desk(side) => {

@@ -20,6 +20,7 @@ use std::io::Read;
 use std::rt::Files;
 use std::{env, fs, io};
 
+/// Prints an answer or a refusal.
 fn print_answer(rt: &impl Print, answer: Result<Answer<'_>, Failure>) -> io::Result<()> {
     match answer {
         Ok(answer) => println!(rt; "{answer}"),
@@ -29,8 +30,8 @@ fn print_answer(rt: &impl Print, answer: Result<Answer<'_>, Failure>) -> io::Res
 }
 
 /// Plays the lines in order on two new desks, and prints each answer.
-fn play<'a>(rt: &impl Print, heap: Global, lines: &'a [Line]) -> io::Result<()> {
-    let mut desks: Desks<'a> = Desks::new(heap);
+fn play(rt: &impl Print, heap: Global, lines: &[Line]) -> io::Result<()> {
+    let mut desks = Desks::new(heap);
     for line in lines {
         match line {
             Ok(command) => print_answer(rt, desks.answer(heap, command))?,
@@ -46,6 +47,7 @@ fn play_script(rt: &impl Print, heap: Global, script: &[u8]) -> io::Result<()> {
     play(rt, heap, lines.as_slice())
 }
 
+/// Plays the script that a reader gives.
 fn play_input(rt: &impl Print, heap: Global, input: &mut impl Read) -> io::Result<()> {
     let mut script = Vec::new(heap);
     input.read_to_end(&mut script)?;

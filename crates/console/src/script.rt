@@ -1,4 +1,6 @@
 // Reading a script: a command from each line that is neither blank nor a comment.
+ghost use Rattle.std.specs.Prelude.{◌++◌, Some, codes, decimal};
+
 use crate::command::{BenchCommand, Command, DeskCommand, Side};
 use crate::fields::*;
 use crate::pieces;
@@ -15,11 +17,14 @@ pub struct BadLine {
 }
 
 impl fmt::Display for BadLine {
+    ghost output = { λ line. Some (codes "error line " ++ decimal line.number) };
+
     fn fmt<W: fmt::Write>(&self, f: &mut fmt::Formatter<W>) -> fmt::Result {
         write!(f, "error line {}", self.number)
     }
 }
 
+/// A command to a bench.
 fn bench_command(heap: Global, fields: &[&[u8]]) -> Result<BenchCommand, ParseError> {
     match fields {
         [b"inaugurate", etb, formation @ ..] => Ok(BenchCommand::Inaugurate {
@@ -42,6 +47,7 @@ fn bench_command(heap: Global, fields: &[&[u8]]) -> Result<BenchCommand, ParseEr
     }
 }
 
+/// A command to a desk.
 fn desk_command(heap: Global, fields: &[&[u8]]) -> Result<DeskCommand, ParseError> {
     match fields {
         [b"turn", formation @ ..] if !formation.is_empty() => Ok(DeskCommand::Turn {
@@ -67,6 +73,7 @@ fn desk_command(heap: Global, fields: &[&[u8]]) -> Result<DeskCommand, ParseErro
     }
 }
 
+/// A command to the book or the roster of a desk, or else to its bench.
 fn fleet_command(heap: Global, fields: &[&[u8]]) -> Result<DeskCommand, ParseError> {
     match fields {
         [b"open", bytes] => Ok(DeskCommand::Open {
@@ -94,6 +101,7 @@ fn fleet_command(heap: Global, fields: &[&[u8]]) -> Result<DeskCommand, ParseErr
     }
 }
 
+/// The command that stands in a line.
 fn command(heap: Global, line: &[u8]) -> Result<Command, ParseError> {
     let fields = pieces::fields(heap, line)?;
     match fields.as_slice() {
