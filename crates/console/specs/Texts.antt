@@ -10,6 +10,7 @@ use Rattle.directory.specs.declared.comparing.Comparison.{Comparison}
 use Rattle.directory.specs.declared.comparing.Likeness.{Likeness}
 use Rattle.directory.specs.declared.comparing.LeadingEnds.{LeadingEnds}
 use Rattle.directory.specs.declared.comparing.LeadingEnds.TheVariants.{Same, Different, Unled}
+use Rattle.console.specs.Outcomes.{composed_as}
 use Rattle.console.specs.declared.command.Side.{Side}
 use Rattle.console.specs.declared.command.Side.TheVariants.{Left, Right}
 use Rattle.console.specs.declared.command.Source.{Source}
@@ -81,12 +82,8 @@ abbrev pub likeness_line : Option Likeness → List ℕ
 likeness_line None = []
 likeness_line (Some l) = 10 ∷ likeness_text l
 
-abbrev pub composed_text : Result ℕ Refusal → List ℕ
-composed_text (Ok length) = written_text (Composed length)
-composed_text (Err refusal) = refused_text refusal
-
 abbrev pub comparison_text : Comparison → List ℕ
-comparison_text c = codes "left " ++ (composed_text c.left ++ (10 ∷ codes "right " ++ (composed_text c.right ++ likeness_line c.likeness)))
+comparison_text c = codes "left " ++ (outcome_text (composed_as c.left) ++ (10 ∷ codes "right " ++ (outcome_text (composed_as c.right) ++ likeness_line c.likeness)))
 
 abbrev pub answer_text : Answer → List ℕ
 answer_text (answer.Done word) = word.now

@@ -1,5 +1,11 @@
 // What a console keeps from line to line.
-ghost use Rattle.std.specs.Prelude.{◌≡◌, IfOk, length, replicate};
+ghost use Rattle.std.specs.Prelude.{◌≡◌, ℕ, Result, IfOk, length, replicate};
+ghost use Rattle.std.specs.Fn.{FnOnceReturnsAtMut};
+ghost use Rattle.train.specs.Turning.{turned_list, turned_coupled};
+ghost use Rattle.train.specs.declared.refusal.Refusal.{Refusal as Why};
+ghost use Rattle.fleet_list.specs.Imports.{Imported};
+ghost use Rattle.fleet_list.specs.Exports.{Exported};
+ghost use Rattle.console.specs.Outcomes.{imported_as, exported_as, calls_after};
 ghost use Rattle.fleet.specs.Fleets.{found_in, vehicle_in};
 ghost use Rattle.train.specs.declared.identity.Identity.{Identity as Id};
 ghost use Rattle.console.specs.Fleets.{meaning, meaning_at, consist_answer, vehicle_answer};
@@ -42,7 +48,9 @@ impl<'a> Desk<'a> {
     }
 
     /// The calls made on the bench, in order.
-    pub fn calls(&self) -> &[Call<'a>] {
+    pub fn calls(&self) -> &[Call<'a>]
+        ensures { result.now ≡ self.now.calls.items }
+    {
         self.calls.as_slice()
     }
 
@@ -141,7 +149,9 @@ impl<'a> Desk<'a> {
     }
 
     /// Carries out a call of the bench, and keeps it for comparing, refused or not.
-    fn carry_out(&mut self, call: Call<'a>) -> Result<Answer<'a>, Failure> {
+    fn carry_out(&mut self, call: Call<'a>) -> Result<Answer<'a>, Failure>
+        ensures { self.new.calls.items ≡ calls_after result self.old.calls.items call.entry }
+    {
         self.calls.push(call).map_err(AllocError::from)?;
         carry_out(&mut self.bench, &call)?;
         Ok(Answer::Done(match call {
@@ -154,20 +164,26 @@ impl<'a> Desk<'a> {
     }
 }
 
-fn turned(heap: Global, formation: &[Coupled]) -> Result<Vec<Coupled>, AllocError> {
+fn turned(heap: Global, formation: &[Coupled]) -> Result<Vec<Coupled>, AllocError>
+    ensures { IfOk result (λ entries. entries.items ≡ turned_list turned_coupled formation.now) }
+{
     let mut entries = Vec::from_slice(heap, formation)?;
     turn_all(entries.as_mut_slice());
     Ok(entries)
 }
 
-fn imported(heap: Global, room: u16, list: &[u8]) -> Result<Filled, AllocError> {
+fn imported(heap: Global, room: u16, list: &[u8]) -> Result<Filled, AllocError>
+    ensures { IfOk result (λ filled. (answer : Result ℕ Why) × Imported list.now (replicate room 0xa5) filled.buffer.items answer × (filled.outcome ≡ imported_as answer)) }
+{
     filled(heap, room, |out| {
         let length = import_list(list, out)?;
         Ok(Written::Imported { length })
     })
 }
 
-fn exported(heap: Global, room: u16, book: &[u8]) -> Result<Filled, AllocError> {
+fn exported(heap: Global, room: u16, book: &[u8]) -> Result<Filled, AllocError>
+    ensures { IfOk result (λ filled. (answer : Result (ℕ × ℕ) Why) × Exported book.now (replicate room 0xa5) filled.buffer.items answer × (filled.outcome ≡ exported_as answer)) }
+{
     filled(heap, room, |out| {
         let (length, lines) = export_book(book, out)?;
         Ok(Written::Exported { length, lines })
@@ -181,6 +197,7 @@ fn filled<F: FnOnce(&mut [u8]) -> Result<Written, Refusal>>(
     fill: F,
 ) -> Result<Filled, AllocError>
     requires { F.IsAlwaysCallable fill }
+    ensures { IfOk result (λ filled. FnOnceReturnsAtMut F.FnOnce fill (replicate room 0xa5) filled.outcome filled.buffer.items) }
 {
     let mut buffer = buffer(heap, room)?;
     let outcome = fill(buffer.as_mut_slice());
