@@ -1,12 +1,9 @@
 // The two desks of a console, and comparing what stands on them.
-use crate::answers::answer;
+use crate::answers::{Answer, Failure};
 use crate::command::{Command, Side, Source};
 use crate::desk::{Desk, buffer};
-use crate::show::refused;
-use directory::comparing::{Comparison, LeadingEnds, Likeness, compare};
-use fleet::questions::Fleet;
+use directory::comparing::{Comparison, compare};
 use std::alloc::{AllocError, Global};
-use train::refusal::Refusal;
 
 /// Two desks, and the one that commands go to.
 #[derive(Drop)]
@@ -26,99 +23,45 @@ impl<'a> Desks<'a> {
         }
     }
 
-    pub fn answer(&mut self, heap: Global, command: &'a Command) -> Result<String, AllocError> {
+    /// Carries out a command, or refuses it.
+    pub fn answer(&mut self, heap: Global, command: &'a Command) -> Result<Answer<'a>, Failure> {
         match command {
             Command::Desk(side) => {
                 self.at = *side;
-                String::from_str(heap, desk_word(*side))
+                Ok(Answer::Desk(*side))
             }
             Command::Compare { left, right, room } => {
-                compared(heap, &self.left, &self.right, (*left, *right), *room)
+                Ok(Answer::Compared(self.compared(heap, *left, *right, *room)?))
             }
-            _ => match self.at {
-                Side::Left => answer(heap, &mut self.left, command),
-                Side::Right => answer(heap, &mut self.right, command),
-            },
+            Command::ToDesk(command) => self.current().answer(heap, command),
         }
     }
-}
 
-/// Compares the calls of the left desk over its fleet with those of the right over its own.
-fn compared(
-    heap: Global,
-    left: &Desk<'_>,
-    right: &Desk<'_>,
-    sources: (Source, Source),
-    room: u16,
-) -> Result<String, AllocError> {
-    let mut out = buffer(heap, room)?;
-    let mut other = buffer(heap, room)?;
-    let (first, second) = sources;
-    let (out, other) = (out.as_mut_slice(), other.as_mut_slice());
-    let comparison = match first {
-        Source::Book => compare_over(left, &left.book, right, second, out, other),
-        Source::Roster => compare_over(left, &left.roster, right, second, out, other),
-    };
-    show_comparison(heap, &comparison)
-}
-
-fn compare_over<F: Fleet>(
-    left: &Desk<'_>,
-    first: &F,
-    right: &Desk<'_>,
-    second: Source,
-    out: &mut [u8],
-    other: &mut [u8],
-) -> Comparison {
-    let calls = left.calls.as_slice();
-    let others = right.calls.as_slice();
-    match second {
-        Source::Book => compare(calls, others, first, &right.book, out, other),
-        Source::Roster => compare(calls, others, first, &right.roster, out, other),
+    /// The desk that commands go to.
+    fn current(&mut self) -> &mut Desk<'a> {
+        match self.at {
+            Side::Left => &mut self.left,
+            Side::Right => &mut self.right,
+        }
     }
-}
 
-fn desk_word(side: Side) -> &'static str {
-    match side {
-        Side::Left => "desk 1",
-        Side::Right => "desk 2",
+    /// Compares the calls of the left desk over its fleet with those of the right over its own.
+    fn compared(
+        &self,
+        heap: Global,
+        left: Source,
+        right: Source,
+        room: u16,
+    ) -> Result<Comparison, AllocError> {
+        let mut out = buffer(heap, room)?;
+        let mut other = buffer(heap, room)?;
+        Ok(compare(
+            self.left.calls(),
+            self.right.calls(),
+            &self.left.fleet(left),
+            &self.right.fleet(right),
+            out.as_mut_slice(),
+            other.as_mut_slice(),
+        ))
     }
-}
-
-/// The length composed, or the refusal.
-fn composed(heap: Global, answer: &Result<usize, Refusal>) -> Result<String, AllocError> {
-    match answer {
-        Ok(length) => format!(in heap; "composed {length}"),
-        Err(refusal) => refused(heap, refusal),
-    }
-}
-
-fn same_word(same: bool) -> &'static str {
-    if same { "same" } else { "different" }
-}
-
-fn ends_word(ends: LeadingEnds) -> &'static str {
-    match ends {
-        LeadingEnds::Same => "same",
-        LeadingEnds::Different => "different",
-        LeadingEnds::Unled => "none",
-    }
-}
-
-fn show_likeness(heap: Global, likeness: &Likeness) -> Result<String, AllocError> {
-    let same = same_word(likeness.same);
-    let ends = ends_word(likeness.ends);
-    format!(in heap; "\ncomposition {same}\nleading end {ends}")
-}
-
-/// The answers of both sides and, where both composed, how they compare.
-fn show_comparison(heap: Global, comparison: &Comparison) -> Result<String, AllocError> {
-    let left = composed(heap, &comparison.left)?;
-    let right = composed(heap, &comparison.right)?;
-    let mut text = format!(in heap; "left {left}\nright {right}")?;
-    if let Some(likeness) = &comparison.likeness {
-        let words = show_likeness(heap, likeness)?;
-        text.push_str(words.as_str())?;
-    }
-    Ok(text)
 }

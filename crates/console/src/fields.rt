@@ -1,171 +1,209 @@
 // The forms of the fields: hex digits, identities, numbers, facings.
-ghost use Rattle.std.specs.Prelude.{◌<◌, IfSome};
+ghost use Rattle.std.specs.Prelude.{◌≡◌, ℕ, ◌<◌, ◌++◌, false, List, [], length, slice_get, slice_index_or, IfOk, IfSome, OnOk, All, IsTrue};
+ghost use Rattle.std.specs.Fmt.{digit_glyph};
+ghost use Rattle.std.specs.Fn.{FnReturnsAt};
+ghost use Rattle.std.specs.Int.{from_be_bytes, w32};
+ghost use Rattle.std.specs.Char.{is_ascii_digit};
+ghost use Rattle.train.specs.Words.{facing_text};
+ghost use Rattle.console.specs.Texts.{byte_text, hex_text, bytes_text, entry_text, source_text};
+ghost use Rattle.console.specs.declared.fields.ParseError.TheVariants.{OutOfMemory};
 
+use crate::command::Source;
 use std::alloc::{AllocError, Global};
+use std::str::FromStr;
 use train::entries::{Coupled, Vehicle};
 use train::facing::Facing;
 use train::identity::Identity;
 use train::name::Name;
 
+/// Why a line gives no command.
+#[derive(Clone, Copy, PartialEq, Eq)]
+pub enum ParseError {
+    Malformed,
+    OutOfMemory(AllocError),
+}
+
+impl From<AllocError> for ParseError {
+    ghost from_gives = { λ error e. e ≡ OutOfMemory error };
+
+    fn from(error: AllocError) -> ParseError {
+        ParseError::OutOfMemory(error)
+    }
+}
+
 /// The value of a hex digit, 0 to 9 or a to f.
-fn nibble(digit: u8) -> Option<u8>
-    ensures { IfSome result (λ n. n < 16) }
+fn nibble(digit: u8) -> Result<u8, ParseError>
+    ensures small { IfOk result (λ n. n < 16) }
+    ensures value { IfOk result (λ n. digit_glyph false n ≡ digit) }
 {
     match digit {
-        b'0'..=b'9' => Some(digit - b'0'),
-        b'a'..=b'f' => Some(digit - b'a' + 10),
-        _ => None,
+        b'0'..=b'9' => Ok(digit - b'0'),
+        b'a'..=b'f' => Ok(digit - b'a' + 10),
+        _ => Err(ParseError::Malformed),
     }
 }
 
 /// The byte of two hex digits.
-fn hex_byte(high: u8, low: u8) -> Option<u8> {
-    let high = nibble(high)?;
-    let low = nibble(low)?;
-    Some(high * 16 + low)
+fn hex_byte(digits: &[u8; 2]) -> Result<u8, ParseError>
+    ensures { IfOk result (λ byte. byte_text byte ≡ digits.now) }
+{
+    let [high, low] = *digits;
+    Ok(nibble(high)? * 16 + nibble(low)?)
+}
+
+/// The bytes of pairs of hex digits.
+fn hex_pairs(heap: Global, pairs: &[[u8; 2]]) -> Result<Vec<u8>, ParseError>
+    ensures len { IfOk result (λ bytes. length bytes.items ≡ length pairs.now) }
+    ensures each { IfOk result (λ bytes. (k : ℕ) → k < length pairs.now → byte_text (slice_index_or bytes.items k 0) ≡ slice_index_or pairs.now k []) }
+{
+    pairs.iter().map(hex_byte).try_collect(heap)
 }
 
 /// An even number of hex digits, or `-` for no bytes.
-pub fn hex_bytes(heap: Global, field: &[u8]) -> Result<Option<Vec<u8>>, AllocError> {
-    let mut bytes = Vec::new(heap);
+#[tactic(auto, using(crate::proofs::Hexes::bytes_text_of_pairs))]
+pub fn hex_bytes(heap: Global, field: &[u8]) -> Result<Vec<u8>, ParseError>
+    ensures { IfOk result (λ bytes. bytes_text bytes.items ≡ field.now) }
+{
     if let b"-" = field {
-        return Ok(Some(bytes));
+        return Ok(Vec::new(heap));
     }
-    if field.len() == 0 || field.len() % 2 != 0 {
-        return Ok(None);
+    match field.as_chunks::<2>() {
+        (pairs, []) if !pairs.is_empty() => hex_pairs(heap, pairs),
+        _ => Err(ParseError::Malformed),
     }
-    for i in 0..field.len() / 2 {
-        match hex_byte(field[2 * i], field[2 * i + 1]) {
-            Some(byte) => bytes.push(byte)?,
-            None => return Ok(None),
-        }
-    }
-    Ok(Some(bytes))
 }
 
-/// Thirty-two hex digits.
-pub fn sixteen(field: &[u8]) -> Option<[u8; 16]> {
-    if field.len() != 32 {
-        return None;
+/// So many bytes, each by two hex digits.
+#[tactic(auto, using(crate::proofs::Hexes::hex_text_of_pairs))]
+pub fn hex_array<const N: usize>(field: &[u8]) -> Result<[u8; N], ParseError>
+    ensures { IfOk result (λ bytes. hex_text bytes ≡ field.now) }
+{
+    let (pairs, rest) = field.as_chunks::<2>();
+    if pairs.len() != N || !rest.is_empty() {
+        return Err(ParseError::Malformed);
     }
-    let mut bytes = [0; 16];
-    for i in 0..16usize {
-        bytes[i] = hex_byte(field[2 * i], field[2 * i + 1])?;
+    let mut bytes = [0; N];
+    for (i, pair) in pairs.iter().enumerate() {
+        bytes[i] = hex_byte(pair)?;
     }
-    Some(bytes)
+    Ok(bytes)
 }
 
 /// Eight hex digits.
-pub fn seed(field: &[u8]) -> Option<u32> {
-    let [a, b, c, d, e, f, g, h] = field else {
-        return None;
+pub fn seed(field: &[u8]) -> Result<u32, ParseError>
+    ensures { IfOk result (λ seed. (bytes : List ℕ) × (seed ≡ from_be_bytes w32 bytes) × (hex_text bytes ≡ field.now)) }
+{
+    Ok(u32::from_be_bytes(hex_array(field)?))
+}
+
+/// A decimal number that the type holds; no sign stands before it.
+pub fn number<T: FromStr>(field: &[u8]) -> Result<T, ParseError>
+where
+    T::Err: Drop,
+    ensures digits { OnOk result (All (λ digit. IsTrue (is_ascii_digit digit)) field.now) }
+    ensures value { IfOk result (λ number. T.from_str_gives field.now (Ok number)) }
+{
+    if !field.iter().all(|digit| digit.is_ascii_digit()) {
+        return Err(ParseError::Malformed);
+    }
+    let digits = str::from_utf8(field).map_err(|_| ParseError::Malformed)?;
+    digits.parse().map_err(|_| ParseError::Malformed)
+}
+
+/// The name inside quotes, its escapes undone: at most sixteen bytes, zero bytes behind them.
+fn unquoted(inside: &[u8]) -> Result<[u8; 16], ParseError> {
+    let mut bytes = [0; 16];
+    let mut rest = inside;
+    for place in bytes.iter_mut() {
+        let (byte, tail) = match rest {
+            [] => break,
+            [b'\\', byte @ (b'"' | b'\\'), tail @ ..] => (byte, tail),
+            [b'"' | b'\\', ..] => return Err(ParseError::Malformed),
+            [byte, tail @ ..] => (byte, tail),
+        };
+        *place = *byte;
+        rest = tail;
+    }
+    if rest.is_empty() {
+        Ok(bytes)
+    } else {
+        Err(ParseError::Malformed)
+    }
+}
+
+/// A quoted name, or x and thirty-two hex digits.
+pub fn name(field: &[u8]) -> Result<Name, ParseError> {
+    let bytes = match field {
+        [b'x', digits @ ..] => hex_array(digits)?,
+        [b'"', inside @ .., b'"'] => unquoted(inside)?,
+        _ => return Err(ParseError::Malformed),
     };
-    Some(u32::from_be_bytes([
-        hex_byte(*a, *b)?,
-        hex_byte(*c, *d)?,
-        hex_byte(*e, *f)?,
-        hex_byte(*g, *h)?,
-    ]))
+    Ok(Name { bytes })
+}
+
+/// Thirty-two hex digits.
+pub fn identity(field: &[u8]) -> Result<Identity, ParseError>
+    ensures { IfOk result (λ identity. hex_text identity.bytes ≡ field.now) }
+{
+    Ok(Identity {
+        bytes: hex_array(field)?,
+    })
 }
 
 /// The facing at the end of a field, and what stands before it.
-pub fn faced(field: &[u8]) -> Option<(&[u8], Facing)> {
-    let [front @ .., sign] = field else {
-        return None;
-    };
-    match *sign {
-        b'+' => Some((front, Facing::Direct)),
-        b'-' => Some((front, Facing::Inverse)),
-        b'?' => Some((front, Facing::NotKnown)),
-        _ => None,
+fn faced(field: &[u8]) -> Result<(&[u8], Facing), ParseError>
+    ensures { IfOk result (λ (front, facing). front.now ++ facing_text facing ≡ field.now) }
+{
+    match field {
+        [front @ .., b'+'] => Ok((front, Facing::Direct)),
+        [front @ .., b'-'] => Ok((front, Facing::Inverse)),
+        [front @ .., b'?'] => Ok((front, Facing::NotKnown)),
+        _ => Err(ParseError::Malformed),
     }
 }
 
 /// An identity with its facing.
-pub fn coupled(field: &[u8]) -> Option<Coupled> {
+pub fn coupled(field: &[u8]) -> Result<Coupled, ParseError>
+    ensures { IfOk result (λ entry. entry_text entry ≡ field.now) }
+{
     let (front, facing) = faced(field)?;
-    let bytes = sixteen(front)?;
-    Some(Coupled {
-        identity: Identity { bytes },
+    Ok(Coupled {
+        identity: identity(front)?,
         facing,
     })
 }
 
-/// A decimal number of at most `most`.
-pub fn number(field: &[u8], most: u32) -> Option<u32> {
-    if field.len() == 0 {
-        return None;
-    }
-    let mut value = 0u32;
-    for b in field {
-        match *b {
-            b'0'..=b'9' => value = value.checked_mul(10)?.checked_add(u32::from(*b - b'0'))?,
-            _ => return None,
-        }
-    }
-    if value > most { None } else { Some(value) }
-}
-
-/// A decimal number of at most 255.
-pub fn small(field: &[u8]) -> Option<u8> {
-    match number(field, 255) {
-        Some(value) => u8::try_from(value).ok(),
-        None => None,
-    }
-}
-
-/// The name inside quotes, its escapes undone: at most sixteen bytes, zero bytes behind them.
-fn unquoted(inside: &[u8]) -> Option<[u8; 16]> {
-    let mut bytes = [0; 16];
-    let mut count = 0usize;
-    let mut escaped = false;
-    for b in inside {
-        if !escaped && *b == b'\\' {
-            escaped = true;
-        } else {
-            if escaped != (*b == b'"' || *b == b'\\') || count >= 16 {
-                return None;
-            }
-            bytes[count] = *b;
-            count += 1;
-            escaped = false;
-        }
-    }
-    if escaped { None } else { Some(bytes) }
-}
-
-/// A quoted name, or x and thirty-two hex digits.
-pub fn name(field: &[u8]) -> Option<Name> {
-    let len = field.len();
-    if len < 2 {
-        return None;
-    }
-    let bytes = if field[0] == b'x' {
-        sixteen(&field[1..])?
-    } else if field[0] == b'"' && field[len - 1] == b'"' {
-        unquoted(&field[1..len - 1])?
-    } else {
-        return None;
-    };
-    Some(Name { bytes })
-}
-
-pub fn identity(field: &[u8]) -> Option<Identity> {
-    let bytes = sixteen(field)?;
-    Some(Identity { bytes })
-}
-
-/// A decimal number of at most 65535.
-pub fn medium(field: &[u8]) -> Option<u16> {
-    match number(field, 65535) {
-        Some(value) => u16::try_from(value).ok(),
-        None => None,
-    }
-}
-
 /// A name with its facing.
-pub fn vehicle(field: &[u8]) -> Option<Vehicle> {
+pub fn vehicle(field: &[u8]) -> Result<Vehicle, ParseError>
+    ensures { IfOk result (λ vehicle. (front : List ℕ) × (front ++ facing_text vehicle.facing ≡ field.now)) }
+{
     let (front, facing) = faced(field)?;
-    let name = name(front)?;
-    Some(Vehicle { name, facing })
+    Ok(Vehicle {
+        name: name(front)?,
+        facing,
+    })
+}
+
+/// The word for a fleet of a desk.
+pub fn source(field: &[u8]) -> Result<Source, ParseError>
+    ensures { IfOk result (λ source. source_text source ≡ field.now) }
+{
+    match field {
+        b"book" => Ok(Source::Book),
+        b"roster" => Ok(Source::Roster),
+        _ => Err(ParseError::Malformed),
+    }
+}
+
+/// The fields that are left, each read as an entry of one form.
+pub fn each<T: Drop, R: Fn(&[u8]) -> Result<T, ParseError>>(
+    heap: Global,
+    fields: &[&[u8]],
+    read: R,
+) -> Result<Vec<T>, ParseError>
+    requires { R.IsAlwaysCallable read }
+    ensures len { IfOk result (λ entries. length entries.items ≡ length fields.now) }
+    ensures each { IfOk result (λ entries. (k : ℕ) → IfSome (slice_get fields.now k) (λ field. IfSome (slice_get entries.items k) (λ entry. FnReturnsAt R.Fn read field.now (Ok entry)))) }
+{
+    fields.iter().map(|field| read(field)).try_collect(heap)
 }

@@ -7,3 +7,4 @@ pub mod Refusals
 pub mod Turning
 pub mod Tests
 pub mod Rows
+pub mod Words

@@ -2,6 +2,7 @@
 #![tactic(auto)]
 
 pub mod checks;
+mod display;
 pub mod entries;
 pub mod facing;
 pub mod identity;

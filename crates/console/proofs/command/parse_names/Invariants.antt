@@ -1,5 +1,0 @@
-use Rattle.console.specs.Pieces.{left}
-use Rattle.console.proofs.command.parse_names.Given as goal
-
-abbrev pub decreases-loop-field : goal.decreases-loop-field
-decreases-loop-field l = left l.rest
