@@ -1,14 +1,15 @@
 -- The steps of a run, one after another.
 use Rattle.std.proofs.Common.{◌≡◌, ℕ, ◌/◌, ◌%◌, ◌^◌, ◌<◌, Bool, true, false, ◌&&◌, eqb, ltb, leb, List, [], ◌∷◌, ◌++◌, map, length, take, drop, IsErrAnd, IfOk, Some, None, Ok, Err, Option, Result, sym, refl, ap, ◌∙◌, subst, ap₂, arith, MatchResult}
 use Rattle.std.proofs.lemmas.Bool.{le-leb, lt-leb, lt-ltb}
+use Rattle.std.proofs.lemmas.List.{length-map}
 use Rattle.train.specs.declared.entries.Coupled.{Coupled}
 use Rattle.train.specs.declared.name.Name.{Name}
 use Rattle.train.specs.declared.refusal.Part.TheVariants.{Book, Bench, Composing}
 use Rattle.train.specs.declared.refusal.Reason.TheVariants.{IdentityOrder, ZeroCounter, EntryCount}
 use Rattle.train.specs.declared.refusal.Refusal.{Refusal}
 use Rattle.train.specs.Identities.{is_identity}
+use Rattle.train.specs.Rows.{label_in, coupled_in}
 use Rattle.train.specs.Refusals.{must, each, alone, refused_at, breach, or_else, refusal, refusal_of}
-use Rattle.fleet.specs.Rows.{rows}
 use Rattle.fleet.specs.Books.{book_checks, fleet_of, meaning_of}
 use Rattle.bench.specs.Calls.Call.{inaugurate, confirm}
 use Rattle.bench.specs.Facts.{Facts, nothing, checks, after, after_all, some, within}
@@ -18,8 +19,8 @@ use Rattle.directory.specs.Sections.{composition}
 use Rattle.directory.specs.Written.{Written}
 use Rattle.directory.proofs.Seen.{answered}
 use Rattle.train.proofs.Rules.{first_refuses}
-use Rattle.linkage.proofs.Tables.{length_read}
-use Rattle.linkage.specs.Plans.{Plan, Step, Played, coupling, confirming, coupled_of, name_of, steps, calls, step_checks, stopped, or_outcome, PlannedInto}
+use Rattle.linkage.proofs.Tables.{identities_read}
+use Rattle.linkage.specs.Plans.{Plan, Step, Played, coupling, confirming, entries, name_of, steps, calls, step_checks, stopped, or_outcome, PlannedInto}
 
 or_else_none : {A : Type 0} (o : Option A) → or_else o None ≡ o
 or_else_none None = refl
@@ -69,47 +70,28 @@ plays f g s r w e h = record {
 }
 
 -- the entries that a call was lent
-pub coupled : {A : Type 0} (f g : Facts) (etb : ℕ) (bs : List ℕ) (table : List Coupled) (k : ℕ) (r : Result A Refusal) → k ≡ length bs / 17
-    → take (length bs / 17) table ≡ map coupled_of (rows 17 (length bs / 17) bs) → None ≡ breach Bench (must (eqb (length bs % 17) 0) EntryCount)
-    → refusal_of r ≡ refusal Bench (checks f (inaugurate etb (take k table))) → g ≡ after f (inaugurate etb (take k table)) → Played f (coupling etb bs ∷ []) r g
-coupled f g etb bs table k r ek t w e h =
-    let q : take k table ≡ map coupled_of (rows 17 (length bs / 17) bs) = ap (λ n. take n table) ek ∙ t in
+pub coupled : {A : Type 0} (f g : Facts) (etb : ℕ) (bs : List ℕ) (rows : List (List ℕ)) (es : List Coupled) (r : Result A Refusal) → rows ≡ entries 17 bs → es ≡ map coupled_in rows
+    → None ≡ breach Bench (must (eqb (length bs % 17) 0) EntryCount) → refusal_of r ≡ refusal Bench (checks f (inaugurate etb es)) → g ≡ after f (inaugurate etb es)
+    → Played f (coupling etb bs ∷ []) r g
+coupled f g etb bs rows es r er ee w e h =
+    let q : es ≡ map coupled_in (entries 17 bs) = ee ∙ ap (map coupled_in) er in
     plays f g (coupling etb bs) r w (e ∙ ap (λ es. refusal Bench (checks f (inaugurate etb es))) q) (h ∙ ap (λ es. after f (inaugurate etb es)) q)
 
 -- bytes that are not none are a confirmed list
 listed : List ℕ → Step
-listed bs = record { whole = eqb (length bs % 16) 0; call = confirm (map name_of (rows 16 (length bs / 16) bs)) }
+listed bs = record { whole = eqb (length bs % 16) 0; call = confirm (map name_of (entries 16 bs)) }
 
 confirms : (bs : List ℕ) → 0 < length bs → confirming bs ≡ listed bs ∷ []
 unfolding listed
 confirms bs l = let e : some bs ≡ true = le-leb 1 (length bs) (omega arith) in rw e
 
-pub confirmed : {A : Type 0} (f g : Facts) (bs : List ℕ) (table : List Name) (k : ℕ) (r : Result A Refusal) → 0 < length bs → k ≡ length bs / 16
-    → take (length bs / 16) table ≡ map name_of (rows 16 (length bs / 16) bs) → None ≡ breach Bench (must (eqb (length bs % 16) 0) EntryCount)
-    → refusal_of r ≡ refusal Bench (checks f (confirm (take k table))) → g ≡ after f (confirm (take k table)) → Played f (confirming bs) r g
+pub confirmed : {A : Type 0} (f g : Facts) (bs : List ℕ) (rows : List (List ℕ)) (ns : List Name) (r : Result A Refusal) → 0 < length bs → rows ≡ entries 16 bs → ns ≡ map name_of rows
+    → None ≡ breach Bench (must (eqb (length bs % 16) 0) EntryCount) → refusal_of r ≡ refusal Bench (checks f (confirm ns)) → g ≡ after f (confirm ns) → Played f (confirming bs) r g
 unfolding listed
-confirmed f g bs table k r l ek t w e h =
-    let q : take k table ≡ map name_of (rows 16 (length bs / 16) bs) = ap (λ n. take n table) ek ∙ t in
+confirmed f g bs rows ns r l er en w e h =
+    let q : ns ≡ map name_of (entries 16 bs) = en ∙ ap (map name_of) er in
     let p = plays f g (listed bs) r w (e ∙ ap (λ ns. refusal Bench (checks f (confirm ns))) q) (h ∙ ap (λ ns. after f (confirm ns)) q) in
     subst (λ ss. Played f ss r g) (sym (confirms bs l)) p
-
--- more names than a bench takes
-second : (a b : Bool) (x : Refusal) → Some x ≡ breach Bench (must b EntryCount) → Some x ≡ breach Bench (must (a && b) EntryCount)
-second true b x h = h
-second false true x h = let z : ◌≡◌ {A = ℕ} 0 1 = cc in absurd (omega arith)
-second false false x h = h
-
-pub too_many : {A : Type 0} (f g : Facts) (bs : List ℕ) (r : Result A Refusal) (x : Refusal) → 0 < length bs → None ≡ breach Bench (must (eqb (length bs % 16) 0) EntryCount)
-    → Some x ≡ breach Bench (must (leb (length bs / 16) 63) EntryCount) → IsErrAnd r (λ y. y ≡ x) → Played f (confirming bs) r g
-unfolding listed
-too_many f g bs r x l w m e =
-    let ns = map name_of (rows 16 (length bs / 16) bs) in
-    let n : length ns ≡ length bs / 16 = length_read 16 (length bs / 16) bs name_of in
-    let t : Some x ≡ breach Bench (must (within 1 63 (length ns)) EntryCount) = second (leb 1 (length ns)) (leb (length ns) 63) x (m ∙ ap (λ k. breach Bench (must (leb k 63) EntryCount)) (sym n)) in
-    let o = first_refuses Bench (must (within 1 63 (length ns)) EntryCount ∷ []) (drop 1 (checks f (confirm ns))) x (t ∙ sym (or_else_none _)) in
-    subst (λ ss. Played f ss r g) (sym (confirms bs l))
-    (stops f g (listed bs ∷ []) r x e
-    (o ∙ ap (λ z. or_else z (refusal Bench (checks f (confirm ns)))) w ∙ sym (or_else_none (refusal Bench (step_checks f (listed bs))))))
 
 -- the book opened and the run was not stopped, so that the plan composes
 pub composes : {A : Type 0} (p : Plan) (g f : Facts) (book : List ℕ) (u : A) (r : Result ℕ Refusal) (before later : List ℕ) → None ≡ refusal Book (book_checks p.book) → book ≡ p.book
@@ -130,11 +112,13 @@ counted : (a b : Bool) → b ≡ true → None ≡ breach Bench (must a ZeroCoun
 counted true b e h = rw e
 counted false b e h = h
 
-pub too_long : (etb : ℕ) (es : List Coupled) (x : Refusal) → 63 < length es → etb < 2 ^ 32 → None ≡ breach Bench (each (alone (λ e. is_identity e.identity.bytes)) IdentityOrder es)
-    → None ≡ breach Bench (must (ltb 0 etb) ZeroCounter) → x ≡ refused_at Bench EntryCount 0 → Some x ≡ refusal Bench (checks nothing (inaugurate etb es))
-too_long etb es x l k h z e =
-    let m : leb (length es) 63 ≡ false = lt-leb (length es) 63 l in
+pub too_long : (etb : ℕ) (rows : List (List ℕ)) (x : Refusal) → 63 < length rows → etb < 2 ^ 32 → None ≡ breach Bench (each (alone (λ row. is_identity (label_in row))) IdentityOrder rows)
+    → None ≡ breach Bench (must (ltb 0 etb) ZeroCounter) → x ≡ refused_at Bench EntryCount 0 → Some x ≡ refusal Bench (checks nothing (inaugurate etb (map coupled_in rows)))
+too_long etb rows x l k h z e =
+    let es = map coupled_in rows in
+    let s : length es ≡ length rows = length-map rows coupled_in in
+    let m : leb (length es) 63 ≡ false = lt-leb (length es) 63 (omega arith) in
     let n : leb 1 (length es) ≡ true = le-leb 1 (length es) (omega arith) in
     let w : within 1 63 (length es) ≡ false = ap₂ (λ a b. a && b) n m in
     let t : Some x ≡ breach Bench (must (within 1 63 (length es)) EntryCount) = ap Some e ∙ ap (λ b. breach Bench (must b EntryCount)) (sym w) in
-    third _ _ _ _ x h (counted (ltb 0 etb) (ltb etb (2 ^ 32)) (lt-ltb etb (2 ^ 32) k) z) t
+    third _ _ _ _ x (h ∙ identities_read rows) (counted (ltb 0 etb) (ltb etb (2 ^ 32)) (lt-ltb etb (2 ^ 32) k) z) t

@@ -1,24 +1,26 @@
--- Entries read into a table, one after another, and a check of each.
-use Rattle.std.proofs.Common.{◌≡◌, ℕ, ◌+◌, ◌*◌, ◌<◌, List, [], ◌∷◌, ◌++◌, map, length, get_or, take, drop, set, sym, ap, ◌∙◌, subst, ap₂, arith}
-use Rattle.std.proofs.lemmas.List.{take_more, take_more_set, take_all, length-map, get_or-map}
-use Rattle.fleet.specs.Rows.{rows}
-use Rattle.fleet.specs.Entries.{rows_at, length-rows}
+-- Entries, and what they are read as.
+use Rattle.std.proofs.Common.{◌≡◌, ℕ, ◌+◌, Bool, cond, ◌&&◌, List, [], ◌∷◌, ◌++◌, map, length, sym, refl, ap, ◌∙◌, ap₂}
+use Rattle.std.proofs.lemmas.List.{length-append}
+use Rattle.train.specs.declared.refusal.Part.TheVariants.{Bench}
+use Rattle.train.specs.declared.refusal.Place.TheVariants.{At}
+use Rattle.train.specs.declared.refusal.Reason.TheVariants.{IdentityOrder}
+use Rattle.train.specs.Identities.{is_identity}
+use Rattle.train.specs.Refusals.{breach, each, alone, keeps, first_breach}
+use Rattle.train.specs.Rows.{label_in, coupled_in}
 
-module _ {B : Type 0} (w n : ℕ) (bs : List ℕ) (f : List ℕ → B) where
-  -- the i-th, as the code reads it
-  pub read_at : (i k : ℕ) (x : B) → i < n → k ≡ w → x ≡ f (take k (drop (i * w) bs)) → x ≡ get_or (map f (rows w n bs)) i (f [])
-  read_at i k x l ek ex = ex ∙ ap (λ k. f (take k (drop (i * w) bs))) ek ∙ ap f (sym (rows_at w n bs i [] l)) ∙ sym (get_or-map f (rows w n bs) i [] (f []) (omega (arith, length-rows w n bs)))
+-- a rule of each entry alone, seen through a function
+module _ {A B : Type 0} (f : A → B) (good : B → Bool) where
+  keeps-map : (before xs : List A) (others : List B) → keeps (alone (λ x. good (f x))) before xs ≡ keeps (alone good) others (map f xs)
+  keeps-map before [] others = refl
+  keeps-map before (x ∷ xs) others = ap (λ b. good (f x) && b) (keeps-map (before ++ x ∷ []) xs (others ++ f x ∷ []))
 
-  pub length_read : length (map f (rows w n bs)) ≡ n
-  length_read = length-map (rows w n bs) f ∙ length-rows w n bs
+  breach-map : (before xs : List A) (others : List B) → length before ≡ length others → first_breach (alone (λ x. good (f x))) before xs ≡ first_breach (alone good) others (map f xs)
+  breach-map before [] others e = refl
+  breach-map before (x ∷ xs) others e =
+      ap₂ (λ p n. cond (good (f x)) p (n + 1)) (breach-map (before ++ x ∷ []) xs (others ++ f x ∷ []) (length-append before _ ∙ ap (λ n. n + 1) e ∙ sym (length-append others _))) e
 
-  -- one more
-  pub read_more : (out : List B) (i k : ℕ) (x : B) → take i out ≡ take i (map f (rows w n bs)) → i < n → i < length out → k ≡ w → x ≡ f (take k (drop (i * w) bs))
-      → take (i + 1) (set out i x) ≡ take (i + 1) (map f (rows w n bs))
-  read_more out i k x e l m ek ex =
-      take_more_set out i x m ∙ ap₂ (λ xs y. xs ++ y ∷ []) e (read_at i k x l ek ex) ∙ sym (take_more (map f (rows w n bs)) i (f []) (omega (arith, length_read)))
-
-  pub read_all : (out : List B) (i : ℕ) → take i out ≡ take i (map f (rows w n bs)) → i ≡ n → take n out ≡ map f (rows w n bs)
-  read_all out i e h =
-      let t : take n out ≡ take n (map f (rows w n bs)) = subst (λ k. take k out ≡ take k (map f (rows w n bs))) h e in
-      t ∙ take_all n (map f (rows w n bs)) (omega (arith, length_read))
+-- the identities of entries are those of what the entries are read as
+pub identities_read : (rows : List (List ℕ)) → breach Bench (each (alone (λ row. is_identity (label_in row))) IdentityOrder rows) ≡ breach Bench (each (alone (λ e. is_identity e.identity.bytes)) IdentityOrder (map coupled_in rows))
+identities_read rows =
+    ap₂ (λ ok p. breach Bench (record { ok = ok; reason = IdentityOrder; place = At p })) (keeps-map coupled_in (λ e. is_identity e.identity.bytes) [] rows [])
+    (breach-map coupled_in (λ e. is_identity e.identity.bytes) [] rows [] refl)

@@ -1,13 +1,15 @@
 -- A plan: a book, and a run of calls on a new bench that is then composed over it, all as bytes.
+use Rattle.std.specs.Fn.{Shared, FnReturnsAt}
+use denote.Ref.{Bor}
 use Rattle.std.specs.Prelude.{◌≡◌, ℕ, ◌/◌, ◌%◌, Bool, true, cond, List, [], ◌∷◌, ◌++◌, map, length, take, IfOk, Some, None, Option, Result, MatchResult, ◌==◌}
-use Rattle.train.specs.declared.entries.Coupled.{Coupled}
 use Rattle.train.specs.declared.name.Name.{Name}
 use Rattle.train.specs.declared.refusal.Part.TheVariants.{Book, Bench}
 use Rattle.train.specs.declared.refusal.Reason.TheVariants.{EntryCount}
 use Rattle.train.specs.declared.refusal.Refusal.{Refusal}
+use Rattle.train.specs.Rows.{coupled_in}
 use Rattle.train.specs.Refusals.{Check, must, or_else, refusal, refusal_of}
-use Rattle.fleet.specs.Rows.{rows, identity_of, facing_byte}
-use Rattle.fleet.specs.Books.{book_checks, facing_of, fleet_of, meaning_of}
+use Rattle.fleet.specs.Rows.{rows}
+use Rattle.fleet.specs.Books.{book_checks, fleet_of, meaning_of}
 use Rattle.bench.specs.Calls.{Call}
 use Rattle.bench.specs.Calls.Call.{inaugurate, claim, confirm}
 use Rattle.bench.specs.Facts.{Facts, nothing, checks, after, after_all, some}
@@ -44,9 +46,9 @@ said p = record {
 abbrev pub entries : ℕ → List ℕ → List (List ℕ)
 entries w bs = rows w (length bs / w) bs
 
--- an entry of a formation: identity, facing
-abbrev pub coupled_of : List ℕ → Coupled
-coupled_of row = record { identity = record { bytes = identity_of row }; facing = facing_of (facing_byte row) }
+-- each call of f at a reference answers what is read of the bytes behind it
+abbrev pub Reads : {F R A : Type 0} → Shared F (Bor R × Unit {0}) A → F → (R → A) → Type 0
+Reads {F} {R} {A} g f of = (x : R) (r : A) → FnReturnsAt g f x r → r ≡ of x
 
 abbrev pub name_of : List ℕ → Name
 name_of row = record { bytes = row }
@@ -57,7 +59,7 @@ pub record Step : Type 0 where
   pub call : Call
 
 abbrev pub coupling : ℕ → List ℕ → Step
-coupling etb bs = record { whole = (length bs % 17 == 0); call = inaugurate etb (map coupled_of (entries 17 bs)) }
+coupling etb bs = record { whole = (length bs % 17 == 0); call = inaugurate etb (map coupled_in (entries 17 bs)) }
 
 -- no bytes are no claim, and no confirmed list
 abbrev pub claiming : List ℕ → ℕ → ℕ → List Step

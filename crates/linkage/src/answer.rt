@@ -68,20 +68,14 @@ pub(crate) fn tell_length(done: Result<usize, Refusal>, answer: &mut Answer) -> 
     ensures told { result ≡ status_of (refusal_of done) }
     ensures answer { answer.new ≡ answer_of (unlined done) }
 {
-    match done {
-        Ok(length) => tell(Ok((length, 0)), answer),
-        Err(refusal) => tell(Err(refusal), answer),
-    }
+    tell(done.map(|length| (length, 0)), answer)
 }
 
 /// The length alone.
 pub(crate) fn length_of(done: Result<(usize, usize), Refusal>) -> Result<usize, Refusal>
     ensures { result ≡ bare done }
 {
-    match done {
-        Ok((length, _lines)) => Ok(length),
-        Err(refusal) => Err(refusal),
-    }
+    done.map(|counted| counted.0)
 }
 
 /// What a call with no room answers, were there room enough: a length in place of the refusal that
@@ -90,13 +84,7 @@ pub(crate) fn with_room(done: Result<usize, Refusal>) -> Result<usize, Refusal>
     ensures { result ≡ freed done }
 {
     match done {
-        Ok(length) => Ok(length),
-        Err(refusal) => {
-            if refusal.reason == Reason::BufferShort {
-                Ok(number_of(refusal.place))
-            } else {
-                Err(refusal)
-            }
-        }
+        Err(refusal) if refusal.reason == Reason::BufferShort => Ok(number_of(refusal.place)),
+        done => done,
     }
 }

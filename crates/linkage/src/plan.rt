@@ -5,11 +5,13 @@ ghost use Rattle.linkage.specs.Plans.{Played, PlannedInto, Planned, coupling, cl
 
 use crate::answer::*;
 use crate::entries::*;
-use bench::state::Bench;
+use bench::state::{Bench, MOST};
 use directory::composing::compose;
 use fleet::book::Book;
 use train::checks::require;
+use train::entries::Coupled;
 use train::identity::Identity;
+use train::name::Name;
 use train::refusal::{Part, Reason, Refusal};
 
 /// A book, and a run of calls on a new bench, as lent bytes.
@@ -28,18 +30,12 @@ struct Plan<'a> {
 fn couple(bench: &mut Bench, etb: u32, formation: &[u8]) -> Result<(), Refusal>
     ensures { Played (shown bench.old) (coupling etb formation.now ∷ []) result (shown bench.new) }
 {
-    require(
-        Part::Bench,
-        formation.len() % COUPLED == 0,
-        Reason::EntryCount,
-    )?;
-    let count = formation.len() / COUPLED;
-    if count > MOST {
-        return refuse_long(etb, formation, count);
+    let rows = whole_entries::<COUPLED>(formation)?;
+    if rows.len() > MOST {
+        return refuse_long(etb, rows);
     }
-    let mut table = [NO_CONSIST; MOST];
-    read_formation(formation, count, &mut table);
-    bench.inaugurate(etb, &table[0..count])
+    let entries = read(rows, |row| Coupled::from(*row));
+    bench.inaugurate(etb, entries.as_slice())
 }
 
 /// Claims the cab that leads, if a consist is given.
@@ -51,11 +47,12 @@ fn claim_leading(
 ) -> Result<(), Refusal>
     ensures { Played (shown bench.old) (claiming claimed.now vehicle direction) result (shown bench.new) }
 {
-    if claimed.len() == 0 {
+    if claimed.is_empty() {
         return Ok(());
     }
-    require(Part::Bench, claimed.len() == LABEL, Reason::IdentityOrder)?;
-    let bytes = sixteen(claimed);
+    let Ok(bytes) = claimed.try_into() else {
+        return Err(Refusal::at(Part::Bench, Reason::IdentityOrder, 0));
+    };
     bench.claim(Identity { bytes }, vehicle, direction)
 }
 
@@ -63,19 +60,13 @@ fn claim_leading(
 fn confirm_names(bench: &mut Bench, confirmed: &[u8]) -> Result<(), Refusal>
     ensures { Played (shown bench.old) (confirming confirmed.now) result (shown bench.new) }
 {
-    if confirmed.len() == 0 {
+    if confirmed.is_empty() {
         return Ok(());
     }
-    require(
-        Part::Bench,
-        confirmed.len() % LABEL == 0,
-        Reason::EntryCount,
-    )?;
-    let count = confirmed.len() / LABEL;
-    require(Part::Bench, count <= MOST, Reason::EntryCount)?;
-    let mut table = [NO_NAME; MOST];
-    read_names(confirmed, count, &mut table);
-    bench.confirm(&table[0..count])
+    let rows = whole_entries::<LABEL>(confirmed)?;
+    require(Part::Bench, rows.len() <= MOST, Reason::EntryCount)?;
+    let names = read(rows, |row| Name { bytes: *row });
+    bench.confirm(names.as_slice())
 }
 
 /// Plays the run of a plan.

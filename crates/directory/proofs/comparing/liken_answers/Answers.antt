@@ -5,15 +5,6 @@ use Rattle.directory.specs.Part.{leading_part, Sections}
 use Rattle.directory.proofs.Likenesses.{front, both_written, likeness_told}
 use Rattle.directory.proofs.comparing.liken_answers.Goals as goal
 
-pub liken-requires : goal.liken-requires
-liken-requires c =
-    let l = subst (λ z. IfOk z (λ n. (n ≤ length c.args.out.now) × Sections (take n c.args.out.now))) c.in-Ok.is c.requires.left in
-    let r = subst (λ z. IfOk z (λ n. (n ≤ length c.args.other.now) × Sections (take n c.args.other.now))) c.in-Ok-answer.is c.requires.right in
-    record {
-      left = subst Sections (sym (front c.in-Ok.n c.args.out.now)) l.1;
-      right = subst Sections (sym (front c.in-Ok-answer.m c.args.other.now)) r.1;
-    }
-
 pub returns : goal.returns
 returns c l s p q =
     let b = front c.in-Ok.n c.args.out.now in

@@ -3,9 +3,6 @@ use Rattle.fleet.specs.Fleets.{vehicles_of}
 use Rattle.directory.proofs.Loads.{Loading, loading_none, loading_more, loading_room, loading_all, loading_end, asked, few_vehicles}
 use Rattle.directory.proofs.loading.load_consist.Goals as goal
 
-pub loop-k-init : goal.loop-k-init
-loop-k-init g c = loading_none _ _ _ _
-
 pub push-requires : goal.push-requires
 push-requires g c =
     let o = g.F.Meant.meaning c.args.fleet.now c.args.identity.now in
@@ -14,22 +11,9 @@ push-requires g c =
     c.loop-k.invariant (sym (asked o c.loop-k.k) ∙ sym c.in-Some.ensures) c.requires in
     (omega arith, few)
 
-pub returns-in_default : goal.returns-in_default
-returns-in_default g c =
-    let o = g.F.Meant.meaning c.args.fleet.now c.args.identity.now in
-    loading_end c.args.identity.now c.args.claim (vehicles_of o) c.loop-k.k c.args.cars.now.items c.loop-k.cars.items c.loop-k.invariant
-    (sym (asked o c.loop-k.k) ∙ sym c.in_default.ensures)
-
 pub loop-k-preserved : goal.loop-k-preserved
 loop-k-preserved g c =
     let o = g.F.Meant.meaning c.args.fleet.now c.args.identity.now in
     subst (λ cars. Loading c.args.identity.now c.args.claim (vehicles_of o) (c.loop-k.k + 1) c.args.cars.now.items cars) (sym c.push.ensures.items)
     (loading_more c.args.identity.now c.args.claim (vehicles_of o) c.loop-k.k c.args.cars.now.items c.loop-k.cars.items c.in-Some.vehicle c.lead_mark.result
     c.loop-k.invariant (sym (asked o c.loop-k.k) ∙ sym c.in-Some.ensures) c.lead_mark.ensures)
-
-pub returns : goal.returns
-returns g c =
-    let o = g.F.Meant.meaning c.args.fleet.now c.args.identity.now in
-    let few = few_vehicles o (g.F.Meant.lawful c.args.fleet.now c.args.identity.now) in
-    let all : c.loop-k.k ≡ 32 = omega arith in
-    loading_all c.args.identity.now c.args.claim (vehicles_of o) c.loop-k.k c.args.cars.now.items c.loop-k.cars.items c.loop-k.invariant (omega arith)

@@ -5,12 +5,6 @@ use Rattle.directory.specs.Operation.{names}
 use Rattle.directory.proofs.InOrder.{walk_on, walk_off, walk_end, some_order}
 use Rattle.directory.proofs.orders.in_order.Goals as goal
 
-pub returns-in-None : goal.returns-in-None
-returns-in-None c =
-    let held = names c.args.head.now in
-    let ns = c.args.confirmed.now in
-    sym (some_order ns held (grind (arith, nat_tests)) ∙ c.loop-name.invariant.1 ∙ walk_off held ns c.loop-name.name-index c.loop-name.at _ c.loop-name-test.true c.in-None.ensures.value)
-
 pub loop-name-preserved : goal.loop-name-preserved
 loop-name-preserved c =
     let held = names c.args.head.now in

@@ -10,6 +10,3 @@ loop-car-preserved c =
     (sym c.push.ensures.items)
     (seating_more (vehicle_row_of c.args.train.now) c.args.cars.now c.loop-car.invariant no_car c.run_of-run.result _ c.loop-car-test.true
     c.run_of-run.ensures.value c.run_of-run.ensures.few c.vehicle_row.ensures)
-
-pub returns : goal.returns
-returns c = seating_all (vehicle_row_of c.args.train.now) c.args.cars.now c.loop-car.invariant c.loop-car-test.false

@@ -22,16 +22,3 @@ returns-in_err-claim_leading c =
     let both = goes_on f g h front claims c.in_ok-couple.field-0 (Err c.in_err-claim_leading.field-0.0) c.in_ok-couple.ensures c.in_err-claim_leading.ensures in
     stops f h (steps p) c.from_residual-in_err-claim_leading.result c.in_err-claim_leading.field-0.0 c.from_residual-in_err-claim_leading.ensures.1
     (stops_first f (front ++ claims) (confirming p.confirmed) c.in_err-claim_leading.field-0.0 both.answer)
-
-pub returns : goal.returns
-returns c =
-    let p = said c.args.plan.now in
-    let f = shown c.args.bench.now in
-    let g = shown c.couple.new.bench in
-    let h = shown c.claim_leading.new.bench in
-    let k = shown c.confirm_names.new.bench in
-    let front = coupling p.etb p.formation ∷ [] in
-    let claims = claiming p.claimed p.vehicle p.direction in
-    let names = confirming p.confirmed in
-    goes_on f g k front (claims ++ names) c.in_ok-couple.field-0 c.confirm_names.result c.in_ok-couple.ensures
-    (goes_on g h k claims names c.in_ok-claim_leading.field-0 c.confirm_names.result c.in_ok-claim_leading.ensures c.confirm_names.ensures)
