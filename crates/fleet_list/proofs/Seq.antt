@@ -87,7 +87,7 @@ nothing_there G f P t from v gv first l =
           omega arith;
     })
 
-wrong_first : {V : Type 0} (G : V → Type 0) (f : V → List ℕ) (P : ℕ → Type 0) (b : ℕ) (t : List ℕ) (v : V) → G v → First G f P → (P b → ⊥) → Breaks G f (b ∷ t) 0
+pub wrong_first : {V : Type 0} (G : V → Type 0) (f : V → List ℕ) (P : ℕ → Type 0) (b : ℕ) (t : List ℕ) (v : V) → G v → First G f P → (P b → ⊥) → Breaks G f (b ∷ t) 0
 wrong_first G f P b t v gv first np = record {
   within = omega arith;
   before = record { value = v; rest = f v; good = gv; begins = refl };

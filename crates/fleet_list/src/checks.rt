@@ -8,7 +8,6 @@ ghost use Rattle.fleet_list.specs.Entries.{head_identity};
 ghost use Rattle.fleet_list.specs.Imports.{rising, names_apart, vehicles_of};
 ghost use Rattle.fleet_list.specs.Tables.{gathered, counts};
 
-use crate::faults::refuse;
 use crate::tables::Head;
 use train::checks::labels_apart;
 use train::entries::Vehicle;
@@ -30,7 +29,7 @@ pub fn identities_rise(heads: &[Head]) -> Result<(), Refusal>
     for (i, head) in heads.iter().enumerate() {
         let id: &[u8] = &head.identity.bytes;
         if !is_rise(prior, id) {
-            return Err(refuse(Reason::IdentityOrder, i + 1));
+            return Err(Refusal::at(Part::Text, Reason::IdentityOrder, i + 1));
         }
         prior = id;
     }
@@ -52,7 +51,7 @@ pub fn names_apart(heads: &[Head], vehicles: &[Vehicle]) -> Result<(), Refusal>
     for (i, head) in heads.iter().enumerate() {
         let end = from + head.count as usize;
         if !are_apart(&vehicles[from..end]) {
-            return Err(refuse(Reason::Repeated, i + 1));
+            return Err(Refusal::at(Part::Text, Reason::Repeated, i + 1));
         }
         from = end;
     }

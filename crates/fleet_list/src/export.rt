@@ -10,7 +10,7 @@ use crate::text_size::list_size;
 use crate::text_writer::put_list;
 use fleet::book::Book;
 use train::entries::Vehicle;
-use train::refusal::{Part, Place, Reason, Refusal};
+use train::refusal::{Part, Reason, Refusal};
 
 // Writes the list of the consists in the tables, where there is room for it.
 fn show(heads: &[Head], vehicles: &[Vehicle], out: &mut [u8]) -> Result<(usize, usize), Refusal>
@@ -20,11 +20,7 @@ fn show(heads: &[Head], vehicles: &[Vehicle], out: &mut [u8]) -> Result<(usize, 
 {
     let need = list_size(heads, vehicles);
     if out.len() < need {
-        return Err(Refusal {
-            part: Part::Book,
-            reason: Reason::BufferShort,
-            place: Place::At(need),
-        });
+        return Err(Refusal::at(Part::Book, Reason::BufferShort, need));
     }
     let bytes = put_list(out, heads, vehicles);
     Ok((bytes, heads.len()))

@@ -7,11 +7,10 @@ ghost use Rattle.fleet_list.specs.Tables.{gathered, counts};
 
 use crate::book_writer::put_book;
 use crate::checks::*;
-use crate::faults::refuse;
 use crate::list_reader::read_list;
 use crate::tables::*;
 use train::entries::Vehicle;
-use train::refusal::{Reason, Refusal};
+use train::refusal::{Part, Reason, Refusal};
 
 // Makes the checks over the entries, and writes the book.
 fn store(heads: &[Head], vehicles: &[Vehicle], out: &mut [u8]) -> Result<usize, Refusal>
@@ -25,7 +24,7 @@ fn store(heads: &[Head], vehicles: &[Vehicle], out: &mut [u8]) -> Result<usize, 
     names_apart(heads, vehicles)?;
     let need = FRAME + CONSIST * heads.len() + VEHICLE * vehicles.len();
     if out.len() < need {
-        return Err(refuse(Reason::BufferShort, need));
+        return Err(Refusal::at(Part::Text, Reason::BufferShort, need));
     }
     Ok(put_book(out, heads, vehicles))
 }
@@ -38,10 +37,10 @@ fn read_and_store(text: &[u8], out: &mut [u8]) -> Result<usize, Refusal>
     let mut vehicles = [NO_VEHICLE; ROOM];
     let (lines, total) = read_list(text, &mut heads, &mut vehicles)?;
     if lines > LINES {
-        return Err(refuse(Reason::ConsistCount, 0));
+        return Err(Refusal::at(Part::Text, Reason::ConsistCount, 0));
     }
     if total > VEHICLES {
-        return Err(refuse(Reason::VehicleCount, 0));
+        return Err(Refusal::at(Part::Text, Reason::VehicleCount, 0));
     }
     store(&heads[0..lines], &vehicles[0..total], out)
 }

@@ -1,18 +1,12 @@
 // The reader of a list: its lines into tables.
-ghost use Rattle.std.specs.Prelude.{◌≡◌, ◌<◌, ◌≤◌, min, length};
+ghost use Rattle.std.specs.Prelude.{◌<◌, ◌≤◌, length};
 ghost use Rattle.fleet_list.specs.Readings.{ListAnswer};
 
+use crate::cursor::Cursor;
 use crate::line_reader::read_line;
 use crate::tables::*;
 use train::entries::Vehicle;
 use train::refusal::Refusal;
-
-// The lesser of the two.
-fn at_most(n: usize, limit: usize) -> usize
-    ensures { result ≡ min n limit }
-{
-    if n < limit { n } else { limit }
-}
 
 // Reads every line; answers how many lines and vehicles there are. The tables hold them where
 // there is room for all; they have a place more for a line that does not fit, and for its vehicles.
@@ -25,16 +19,16 @@ pub fn read_list(
     requires vehicles { 2032 ≤ length vehicles.old }
     ensures { ListAnswer text.now heads.new vehicles.new result }
 {
-    let mut at = 0;
-    let mut lines = 0;
-    let mut total = 0;
-    while at < text.len() {
-        let from = at_most(total, VEHICLES);
-        let (head, len) = read_line(&text[at..], lines + 1, &mut vehicles[from..from + LONGEST])?;
-        heads[at_most(lines, LINES)] = head;
+    let mut cursor = Cursor::new(text);
+    let mut lines = 0usize;
+    let mut total = 0usize;
+    while !cursor.is_at_end() {
+        let from = total.min(VEHICLES);
+        let head = read_line(&mut cursor, &mut vehicles[from..from + LONGEST])?;
+        heads[lines.min(LINES)] = head;
         lines += 1;
         total += head.count as usize;
-        at += len;
+        cursor.next_line();
     }
     Ok((lines, total))
 }

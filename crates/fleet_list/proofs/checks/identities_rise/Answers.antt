@@ -11,7 +11,7 @@ use Rattle.fleet_list.proofs.checks.identities_rise.Goals as goal
 
 pub returns-then-not-is_rise : goal.returns-then-not-is_rise
 returns-then-not-is_rise c =
-    ap (λ x. Some x) c.refuse.ensures
+    ap (λ x. Some x) c.at.ensures
     ∙ sym (ap (breach Text) c.loop-i.invariant.0
     ∙ part_here rising IdentityOrder head_identity c.args.heads.now c.loop-i.i Text no_head [] _ refl c.loop-i-test.true
     (ap (λ p. rises p (head_identity (get_or c.args.heads.now c.loop-i.i no_head))) (sym c.loop-i.invariant.1) ∙ sym c.if-not-is_rise.ensures))

@@ -27,7 +27,7 @@ slice_bounds-are_apart-end c = walk_fits c.args.heads.now c.args.vehicles.now c.
 
 pub returns-then-not-are_apart : goal.returns-then-not-are_apart
 returns-then-not-are_apart c =
-    ap (λ x. Some x) c.refuse.ensures
+    ap (λ x. Some x) c.at.ensures
     ∙ sym (ap (breach Text) c.loop-i.invariant.0
     ∙ part_here (alone names_apart) Repeated vehicles_of (gathered c.args.heads.now c.args.vehicles.now) c.loop-i.i Text _ [] _
     (here c.args.heads.now c.args.vehicles.now c.loop-i.i c.loop-i.from _ no_head no_head c.loop-i.invariant.1 c.loop-i-test.true refl)

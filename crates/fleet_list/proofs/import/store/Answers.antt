@@ -18,7 +18,7 @@ pub returns-then-out-need : goal.returns-then-out-need
 returns-then-out-need c = (
   at_room c.args.heads.now c.args.vehicles.now (length c.args.out.now) (6 + 21 * length c.args.heads.now + 17 * length c.args.vehicles.now)
       c.in_ok-identities_rise.ensures c.in_ok-names_apart.ensures (need_is c.args.heads.now c.args.vehicles.now c.requires.sums c.requires.lines) c.if-out-need.true
-      ∙ ap (λ z. Some z) (sym c.refuse.ensures),
+      ∙ ap (λ z. Some z) (sym c.at.ensures),
   refl,
 )
 
