@@ -6,6 +6,7 @@ pub mod Parts
 pub mod Cursors
 pub mod Lists
 pub mod Tables
+pub mod Consists
 pub mod Readings
 pub mod Writes
 pub mod Imports

@@ -5,7 +5,7 @@ ghost use Rattle.fleet_list.specs.Forms.{fault};
 use train::refusal::{Part, Place, Reason, Refusal};
 
 /// A text from the line on that is read, the place that is reached in it, and the line's number.
-#[derive(Clone, Copy)]
+#[derive(Drop)]
 pub struct Cursor<'a> {
     text: &'a [u8],
     at: usize,

@@ -6,7 +6,7 @@ use Rattle.fleet.specs.Heads.{first_refused}
 use Rattle.fleet_list.specs.Imports.{room_for}
 use Rattle.fleet_list.specs.Lists.{list_text}
 use Rattle.fleet_list.proofs.Long.{is_long, list_small}
-use Rattle.fleet_list.proofs.Shows.{tables, sums, exported}
+use Rattle.fleet_list.proofs.Shows.{tables, exported}
 use Rattle.fleet_list.proofs.export.export_book.Goals as goal
 use Rattle.fleet_list.proofs.export.export_book.Goals.{In_ok-open}
 
@@ -30,11 +30,7 @@ show-requires c =
     let e = tables c.args.book.now c.read_book-lines.new.heads c.read_book-lines.new.vehicles c.read_book-lines.result.0 c.read_book-lines.result.1 (c.read_book-lines.result.0 - 0)
     (c.read_book-lines.result.1 - 0) c.read_book-lines.ensures room (omega arith) (omega arith) in
     let small = list_small (fleet_of c.args.book.now) (the_book (goal.at.show-requires c).In_ok-open).fleet in
-    record {
-      sums = sums c.args.book.now c.read_book-lines.new.heads c.read_book-lines.new.vehicles c.read_book-lines.result.0 c.read_book-lines.result.1 (c.read_book-lines.result.0 - 0)
-          (c.read_book-lines.result.1 - 0) c.read_book-lines.ensures room (omega arith) (omega arith);
-      small = omega (arith, small, ap (λ z. length (list_text z)) e);
-    }
+    omega (arith, small, ap (λ z. length (list_text z)) e)
 
 pub returns : goal.returns
 returns c =
