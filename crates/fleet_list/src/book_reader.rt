@@ -10,10 +10,6 @@ use train::facing::Facing;
 use train::identity::Identity;
 use train::name::Name;
 
-const CONSIST: usize = 21;
-
-const VEHICLE: usize = 17;
-
 fn sixteen(bytes: &[u8]) -> [u8; 16]
     requires { length bytes.now ≡ 16 }
     ensures { result ≡ bytes.now }
@@ -78,18 +74,17 @@ fn read_vehicles(table: &[u8], total: usize, vehicles: &mut [Vehicle])
     }
 }
 
-// Reads the entries of a book; answers how many consists and vehicles there are.
-pub fn read_book(book: &[u8], heads: &mut [Head], vehicles: &mut [Vehicle]) -> (usize, usize)
-    requires long { IsLong book.now }
-    requires heads { 200 ≤ length heads.old }
-    requires vehicles { 2000 ≤ length vehicles.old }
-    ensures { Loaded book.now heads.new vehicles.new result.0 result.1 }
+// Reads the entries of a book into the tables.
+pub fn read_book(book: &[u8], tables: &mut Tables)
+    requires { IsLong book.now }
+    ensures { Loaded book.now tables.new.heads tables.new.vehicles tables.new.lines tables.new.total }
 {
     let count = book[2] as usize * 256 + book[3] as usize;
     let rest = &book[4..];
     let tail = &rest[count * CONSIST..];
     let total = tail[0] as usize * 256 + tail[1] as usize;
-    read_heads(&rest[0..count * CONSIST], count, heads);
-    read_vehicles(&tail[2..], total, vehicles);
-    (count, total)
+    read_heads(&rest[0..count * CONSIST], count, &mut tables.heads);
+    read_vehicles(&tail[2..], total, &mut tables.vehicles);
+    tables.lines = count;
+    tables.total = total;
 }

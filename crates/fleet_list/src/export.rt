@@ -6,7 +6,7 @@ ghost use Rattle.fleet_list.specs.Consists.{items_in};
 
 use crate::book_reader::read_book;
 use crate::consists::Consists;
-use crate::tables::*;
+use crate::tables::Tables;
 use crate::text_size::list_size;
 use crate::text_writer::put_list;
 use fleet::book::Book;
@@ -32,12 +32,7 @@ pub fn export_book(book: &[u8], out: &mut [u8]) -> Result<(usize, usize), Refusa
 {
     let mut opened = Book::new();
     opened.open(book)?;
-    let mut heads = [NO_HEAD; HEADS];
-    let mut vehicles = [NO_VEHICLE; ROOM];
-    let (lines, total) = read_book(book, &mut heads, &mut vehicles);
-    let consists = Consists {
-        heads: &heads[0..lines],
-        vehicles: &vehicles[0..total],
-    };
-    show(consists, out)
+    let mut tables = Tables::new();
+    read_book(book, &mut tables);
+    show(tables.consists(), out)
 }

@@ -32,20 +32,15 @@ fn store(consists: Consists, out: &mut [u8]) -> Result<usize, Refusal>
 fn read_and_store(text: &[u8], out: &mut [u8]) -> Result<usize, Refusal>
     ensures { Imported text.now out.old out.new result }
 {
-    let mut heads = [NO_HEAD; HEADS];
-    let mut vehicles = [NO_VEHICLE; ROOM];
-    let (lines, total) = read_list(text, &mut heads, &mut vehicles)?;
-    if lines > LINES {
+    let mut tables = Tables::new();
+    read_list(text, &mut tables)?;
+    if tables.lines > LINES {
         return Err(Refusal::at(Part::Text, Reason::ConsistCount, 0));
     }
-    if total > VEHICLES {
+    if tables.total > VEHICLES {
         return Err(Refusal::at(Part::Text, Reason::VehicleCount, 0));
     }
-    let consists = Consists {
-        heads: &heads[0..lines],
-        vehicles: &vehicles[0..total],
-    };
-    store(consists, out)
+    store(tables.consists(), out)
 }
 
 /// Reads a fleet list, writes its fleet as a book at the front of `out`, and answers the length of
