@@ -1,6 +1,8 @@
 -- What readers do to a cursor, one behind another.
 use Rattle.std.proofs.Common.{◌≡◌, ℕ, ◌+◌, ◌<◌, Bool, true, false, ltb, ◌↔◌, List, [], ◌∷◌, ◌++◌, length, get_or, drop, Some, None, Ok, Err, Option, Result, sym, refl, ap, ◌∙◌, subst, arith, ltb-true, ltb-false}
 use Rattle.std.specs.Bool.{IsTrue}
+use Rattle.std.specs.Prelude.{IsErrAnd}
+use Rattle.std.proofs.lemmas.Result.{err_from_is_err_and}
 use Rattle.std.proofs.lemmas.List.{at_drop_more}
 use Rattle.train.specs.declared.refusal.Refusal.{Refusal}
 use Rattle.fleet_list.specs.declared.cursor.Cursor.{Cursor}
@@ -49,6 +51,10 @@ module _ {V W R S T : Type 0} (G : V → Type 0) (f : V → List ℕ) (H : W →
 
 pub first_stuck : {V W R T : Type 0} (G : V → Type 0) (f : V → List ℕ) (H : W → Type 0) (g : W → List ℕ) {of : R → V} {c d : Cursor} {x : Refusal} (to : T → V × W) (w : W) → H w → Takes G f of c d (Err x) → Takes (Both G H) (joint f g) to c d (Err x)
 first_stuck G f H g {of} {c} {d} {x} to w h a = record { stays = a.stays; answer = refused_first G f H g c.text.now c.at c.line x w h a.answer }
+
+-- a refusal that `?` passes on
+pub passed_on : {V R : Type 0} {G : V → Type 0} {f : V → List ℕ} {of : R → V} {c d : Cursor} {r : Result R Refusal} {x : Refusal} → IsErrAnd r (λ y. y ≡ x) → Takes G f of c d (Err x) → Takes G f of c d r
+passed_on {r = r} h t = let p = err_from_is_err_and r h in rw (p.1, p.2) t
 
 -- the same refusal, in other words
 pub stuck_same : {V W R S : Type 0} (G : V → Type 0) (f : V → List ℕ) (H : W → Type 0) (g : W → List ℕ) {of : R → V} (of' : S → W) {c d : Cursor} {x : Refusal} → ((v : V) → G v → (w : W) × H w × (g w ≡ f v)) → ((w : W) → H w → (v : V) × G v × (g w ≡ f v))

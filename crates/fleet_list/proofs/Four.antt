@@ -72,10 +72,6 @@ vehicles-cars : (vs : List Vehicle) → map vehicle_of (cars vs) ≡ vs
 vehicles-cars [] = refl
 vehicles-cars (v ∷ vs) = ap (λ z. v ∷ z) (vehicles-cars vs)
 
-vehicles_text : (vs : List Vehicle) → flat_map spaced (cars vs) ≡ flat_map vehicle_text vs
-vehicles_text [] = refl
-vehicles_text (v ∷ vs) = ap (λ z. vehicle_text v ++ z) (vehicles_text vs)
-
 pub length-map : {A B : Type 0} (f : A → B) (xs : List A) → length (map f xs) ≡ length xs
 length-map f [] = refl
 length-map f (x ∷ xs) = ap suc (length-map f xs)

@@ -61,17 +61,6 @@ pub escaped_few : (n : List ℕ) → length (flat_map escaped n) ≤ 2 * length 
 escaped_few [] = omega arith
 escaped_few (b ∷ n) = omega (arith, length-append (escaped b) (flat_map escaped n), escaped_by b (eqb b 34) (eqb b 92), escaped_few n)
 
-few_by : (bs : List ℕ) (z : Bool) (b : ℕ) → length (text_of bs) ≤ length bs → length (cond z [] (b ∷ text_of bs)) ≤ length (b ∷ bs)
-few_by bs true b h = omega arith
-few_by bs false b h = omega arith
-
-pub text_few : (bs : List ℕ) → length (text_of bs) ≤ length bs
-text_few [] = omega arith
-text_few (b ∷ bs) = few_by bs (eqb b 0) b (text_few bs)
-
-pub quoted_few : (bs : List ℕ) → length bs ≤ 16 → length (quoted (text_of bs)) ≤ 34
-quoted_few bs l = omega (arith, quoted_long (text_of bs), escaped_few (text_of bs), text_few bs)
-
 -- the sum of the lengths
 pub flat_long : {V : Type 0} (f : V → List ℕ) (es : List V) → length (flat_map f es) ≡ sum_by (λ e. length (f e)) es
 flat_long f es = length-flat_map f es

@@ -35,7 +35,7 @@ impl Form<u8> for Hex {
 }
 
 // The hex digits of these bytes, and a space.
-fn put_bytes(out: &mut [u8], bytes: &[u8]) -> usize
+fn put_hex(out: &mut [u8], bytes: &[u8]) -> usize
     requires { length (bytes_text bytes.now) ≤ length out.old }
     ensures { Written (bytes_text bytes.now) out.old result out.new }
 {
@@ -127,7 +127,7 @@ fn put_line(out: &mut [u8], consist: Consist) -> usize
     requires { length (line_text (item_in consist)) ≤ length out.old }
     ensures { Written (line_text (item_in consist.entry)) out.old result out.new }
 {
-    let mut at = put_bytes(out, &consist.head.identity.bytes);
+    let mut at = put_hex(out, &consist.head.identity.bytes);
     at += put_decimal(&mut out[at..], consist.head.counter);
     at += put_each::<Text, Vehicle>(&mut out[at..], consist.vehicles);
     out[at] = b'\n';

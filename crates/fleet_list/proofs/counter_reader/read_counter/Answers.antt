@@ -1,7 +1,6 @@
 use Rattle.std.proofs.Common.{◌≡◌, ◌<◌, length, get_or, rules, arith}
-use Rattle.std.proofs.lemmas.Result.{err_from_is_err_and}
 use Rattle.fleet_list.proofs.Counting.{counting_more, counting_stuck, counting_done}
-use Rattle.fleet_list.proofs.Cursors.{say_more, not_at, at_refused}
+use Rattle.fleet_list.proofs.Cursors.{passed_on, say_more, not_at, at_refused}
 use Rattle.fleet_list.proofs.counter_reader.read_counter.Goals as goal
 use Rattle.fleet_list.proofs.counter_reader.read_counter.Goals.{After-take, then-value-eq0, else-value-eq0+then-not-is_at}
 
@@ -11,8 +10,7 @@ no_space c l e = elim c.if-value-eq0.branch [ then-value-eq0 w ↦ w.if-value-eq
 
 pub returns-in_err-value : goal.returns-in_err-value
 returns-in_err-value c =
-    let p = err_from_is_err_and c.from_residual.result c.from_residual.ensures.1 in
-    rw (p.1, p.2) (counting_stuck (no_space (goal.at.returns-in_err-value c).After-take) c.loop-value.invariant (say_more c.in_err-value.ensures (λ x o p. search rules)))
+    passed_on c.from_residual.ensures.1 (counting_stuck (no_space (goal.at.returns-in_err-value c).After-take) c.loop-value.invariant (say_more c.in_err-value.ensures (λ x o p. search rules)))
 
 pub loop-value-preserved : goal.loop-value-preserved
 loop-value-preserved c = counting_more (no_space (goal.at.loop-value-preserved c).After-take) c.loop-value.invariant (say_more c.in_ok-value.ensures (λ x o p. search rules))

@@ -1,9 +1,8 @@
 use Rattle.std.proofs.Common.{◌≡◌, ◌+◌, [], ◌∷◌, length, take, set, Ok, Err, refl, arith, length-take-le}
-use Rattle.std.proofs.lemmas.Result.{err_from_is_err_and}
 use Rattle.train.specs.Names.{IsName, padded}
 use Rattle.fleet_list.specs.Parts.{name_text, name_bytes, same, Letter}
 use Rattle.fleet_list.specs.Texts.{escaped}
-use Rattle.fleet_list.proofs.Cursors.{byte_missing, taken_as, stuck_as, not_at}
+use Rattle.fleet_list.proofs.Cursors.{passed_on, byte_missing, taken_as, stuck_as, not_at}
 use Rattle.fleet_list.proofs.Letters.{Sized, front_letter, apart_letter}
 use Rattle.fleet_list.proofs.Pads.{named, first_quote}
 use Rattle.fleet_list.proofs.Runs.{along_none, item_stuck}
@@ -13,8 +12,7 @@ use Rattle.fleet_list.proofs.name_reader.read_name.Goals.{After-expect-2, else-l
 
 pub returns-in_err-expect : goal.returns-in_err-expect
 returns-in_err-expect c =
-    let p = err_from_is_err_and c.from_residual.result c.from_residual.ensures.1 in
-    rw (p.1, p.2) (byte_missing IsName name_text name_bytes 34 (padded (65 ∷ [])) (named (65 ∷ []) ((omega arith, omega arith), ((omega arith, omega arith), tt))) first_quote c.in_err-expect.ensures)
+    passed_on c.from_residual.ensures.1 (byte_missing IsName name_text name_bytes 34 (padded (65 ∷ [])) (named (65 ∷ []) ((omega arith, omega arith), ((omega arith, omega arith), tt))) first_quote c.in_err-expect.ensures)
 
 pub loop-slot-init : goal.loop-slot-init
 loop-slot-init c = record {
@@ -24,11 +22,10 @@ loop-slot-init c = record {
 
 pub returns-in_err-slot : goal.returns-in_err-slot
 returns-in_err-slot c =
-    let p = err_from_is_err_and c.from_residual-in_err-slot.result c.from_residual-in_err-slot.ensures.1 in
     let i = c.loop-slot.slot-index in
     let v = c.loop-slot.invariant in
     let n : length (take i c.loop-slot.letters) ≡ i = length-take-le i c.loop-slot.letters (omega (arith, v.spelled.long)) in
-    rw (p.1, p.2)
+    passed_on c.from_residual-in_err-slot.ensures.1
     (stuck_as IsName name_text name_bytes (quoted_name (Err _) c.in_ok-expect.ensures
     (item_stuck Letter escaped 34 front_letter apart_letter Sized same [] (omega arith, omega arith) tt (λ h l e. v.onward (omega (arith, h.0)) (record { more = l; byte = e })) v.spelled.along c.in_err-slot.ensures)))
 
@@ -43,8 +40,7 @@ spelt c = elim c.loop-slot-test.branch [
 
 pub returns-in_err-expect-2 : goal.returns-in_err-expect-2
 returns-in_err-expect-2 c =
-    let p = err_from_is_err_and c.from_residual-in_err-expect-2.result c.from_residual-in_err-expect-2.ensures.1 in
-    rw (p.1, p.2) (stuck_as IsName name_text name_bytes (quoted_name (Err _) c.in_ok-expect.ensures (spelt_stuck (spelt (goal.at.returns-in_err-expect-2 c).After-expect-2) c.in_err-expect-2.ensures)))
+    passed_on c.from_residual-in_err-expect-2.ensures.1 (stuck_as IsName name_text name_bytes (quoted_name (Err _) c.in_ok-expect.ensures (spelt_stuck (spelt (goal.at.returns-in_err-expect-2 c).After-expect-2) c.in_err-expect-2.ensures)))
 
 pub returns : goal.returns
 returns c =

@@ -11,14 +11,14 @@ flat a b d = simp append_assoc
 
 pub returns : goal.returns
 returns c =
-    let a = lend (lend c.put_bytes-at.ensures c.put_decimal-at.ensures refl) c.put_each-at.ensures refl in
+    let a = lend (lend c.put_hex-at.ensures c.put_decimal-at.ensures refl) c.put_each-at.ensures refl in
     same_text (flat (flat_map byte_text c.args.consist.head.now.identity.bytes) (decimal c.args.consist.head.now.counter) (flat_map vehicle_text c.args.consist.vehicles.now))
     (then_byte a 10 (omega (
       arith,
       line_sized (item_in c.args.consist),
       length-append (flat_map byte_text c.args.consist.head.now.identity.bytes) (32 ∷ []),
       c.requires,
-      c.put_bytes-at.ensures.long,
+      c.put_hex-at.ensures.long,
       c.put_decimal-at.ensures.long,
       c.put_each-at.ensures.long,
     )))

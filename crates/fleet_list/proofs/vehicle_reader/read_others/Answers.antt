@@ -1,18 +1,16 @@
 use Rattle.std.proofs.Common.{◌≡◌, ℕ, ◌<◌, ◌≤◌, [], length, take, get_or, ⊎_elim, arith, length-take-le}
-use Rattle.std.proofs.lemmas.Result.{err_from_is_err_and}
 use Rattle.fleet_list.specs.Parts.{GoodCar, spaced, cars}
 use Rattle.fleet_list.proofs.Cars.{length-cars, Next, first_next, front_spaced, apart_spaced}
-use Rattle.fleet_list.proofs.Cursors.{not_at}
+use Rattle.fleet_list.proofs.Cursors.{passed_on, not_at}
 use Rattle.fleet_list.proofs.Runs.{item_stuck, end_stuck}
 use Rattle.fleet_list.proofs.vehicle_reader.read_others.Goals as goal
 use Rattle.fleet_list.proofs.vehicle_reader.read_others.Goals.{After-expect, then-loop-count-test+else-is_at, else-loop-count-test}
 
 pub returns-in_err-room-clause-answer : goal.returns-in_err-room-clause-answer
 returns-in_err-room-clause-answer c =
-    let p = err_from_is_err_and c.from_residual.result c.from_residual.ensures.1 in
     let vs = take c.loop-count.count c.loop-count.room in
     let h = c.is_at.ensures.0 c.if-is_at.true in
-    rw (p.1, p.2)
+    passed_on c.from_residual.ensures.1
     (item_stuck GoodCar spaced 10 front_spaced apart_spaced (λ n. n ≤ 31) _ [] (omega (arith, length-cars vs, length-take-le c.loop-count.count c.loop-count.room)) tt (λ _ _ e. omega (arith, h.byte)) c.loop-count.invariant.along c.in_err-room.ensures)
 
 -- no vehicle may follow, or none does
@@ -25,9 +23,8 @@ none_next c n q l h = ⊎_elim h (λ k. elim c.loop-count-test.branch [
 
 pub returns-in_err-expect-clause-answer : goal.returns-in_err-expect-clause-answer
 returns-in_err-expect-clause-answer c =
-    let p = err_from_is_err_and c.from_residual-in_err-expect.result c.from_residual-in_err-expect.ensures.1 in
     let vs = take c.loop-count.count c.loop-count.room in
     let n : length (cars vs) ≡ c.loop-count.count = omega (arith, length-cars vs, length-take-le c.loop-count.count c.loop-count.room) in
-    rw (p.1, p.2)
+    passed_on c.from_residual-in_err-expect.ensures.1
     (end_stuck GoodCar spaced 10 front_spaced apart_spaced (λ n. n ≤ 31) _ (Next (length (cars vs))) [] (omega arith, tt) (first_next (length (cars vs)))
     (none_next (goal.at.returns-in_err-expect-clause-answer c).After-expect (length (cars vs)) n) c.loop-count.invariant.along c.in_err-expect.ensures)
