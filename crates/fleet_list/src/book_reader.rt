@@ -1,7 +1,7 @@
 // The rows of a book, into tables.
-ghost use Rattle.std.specs.Prelude.{◌≡◌, ◌*◌, ◌<◌, ◌≤◌, map, length, take};
+ghost use Rattle.std.specs.Prelude.{◌≡◌, ℕ, ◌*◌, ◌≤◌, List, map, length};
 ghost use Rattle.fleet.specs.Books.{facing_of, vehicle_of};
-ghost use Rattle.fleet.specs.Rows.{rows};
+ghost use Rattle.fleet.specs.Rows.{rows as rows_of};
 ghost use Rattle.fleet_list.specs.Entries.{head_of, IsLong, Loaded};
 
 use crate::tables::*;
@@ -54,23 +54,53 @@ fn vehicle_of(row: &[u8]) -> Vehicle
     }
 }
 
-fn read_heads(entries: &[u8], count: usize, heads: &mut [Head])
-    requires long { 21 * count ≤ length entries.now }
-    requires room { count ≤ length heads.old }
-    ensures { take count heads.new ≡ map head_of (rows 21 count entries.now) }
-{
-    for i in 0..count {
-        heads[i] = head_of(&entries[i * CONSIST..i * CONSIST + CONSIST]);
+/// What a row of so many bytes is read as.
+trait Row: Copy {
+    ghost WIDTH: { ℕ };
+
+    ghost of: { List ℕ → Self };
+
+    const WIDTH: usize;
+
+    fn read(row: &[u8]) -> Self
+        requires { length row.now ≡ WIDTH }
+        ensures { result ≡ of row.now };
+}
+
+impl Row for Head {
+    ghost WIDTH = { 21 };
+
+    ghost of = { head_of };
+
+    const WIDTH: usize = CONSIST;
+
+    fn read(row: &[u8]) -> Head {
+        head_of(row)
     }
 }
 
-fn read_vehicles(table: &[u8], total: usize, vehicles: &mut [Vehicle])
-    requires long { 17 * total ≤ length table.now }
-    requires room { total ≤ length vehicles.old }
-    ensures { take total vehicles.new ≡ map vehicle_of (rows 17 total table.now) }
+impl Row for Vehicle {
+    ghost WIDTH = { 17 };
+
+    ghost of = { vehicle_of };
+
+    const WIDTH: usize = VEHICLE;
+
+    fn read(row: &[u8]) -> Vehicle {
+        vehicle_of(row)
+    }
+}
+
+// Fills a table from rows that stand one behind another.
+fn read_rows<T: Row>(rows: &[u8], table: &mut [T])
+    requires { T.WIDTH * length table.old ≤ length rows.now }
+    ensures { table.new ≡ map T.of (rows_of T.WIDTH (length table.old) rows.now) }
 {
-    for i in 0..total {
-        vehicles[i] = vehicle_of(&table[i * VEHICLE..i * VEHICLE + VEHICLE]);
+    let mut rest = rows;
+    for slot in table.iter_mut() {
+        let (row, more) = rest.split_at(T::WIDTH);
+        *slot = T::read(row);
+        rest = more;
     }
 }
 
@@ -83,8 +113,8 @@ pub fn read_book(book: &[u8], tables: &mut Tables)
     let rest = &book[4..];
     let tail = &rest[count * CONSIST..];
     let total = tail[0] as usize * 256 + tail[1] as usize;
-    read_heads(&rest[0..count * CONSIST], count, &mut tables.heads);
-    read_vehicles(&tail[2..], total, &mut tables.vehicles);
+    read_rows(&rest[0..count * CONSIST], &mut tables.heads[0..count]);
+    read_rows(&tail[2..], &mut tables.vehicles[0..total]);
     tables.lines = count;
     tables.total = total;
 }
