@@ -54,52 +54,52 @@ fn vehicle_of(row: &[u8]) -> Vehicle
     }
 }
 
-/// What a row of so many bytes is read as.
-trait Row: Copy {
+/// What is read from a row of so many bytes.
+trait FromRow: Copy {
     ghost WIDTH: { ℕ };
 
     ghost of: { List ℕ → Self };
 
     const WIDTH: usize;
 
-    fn read(row: &[u8]) -> Self
+    fn from_row(row: &[u8]) -> Self
         requires { length row.now ≡ WIDTH }
         ensures { result ≡ of row.now };
 }
 
-impl Row for Head {
+impl FromRow for Head {
     ghost WIDTH = { 21 };
 
     ghost of = { head_of };
 
     const WIDTH: usize = CONSIST;
 
-    fn read(row: &[u8]) -> Head {
+    fn from_row(row: &[u8]) -> Head {
         head_of(row)
     }
 }
 
-impl Row for Vehicle {
+impl FromRow for Vehicle {
     ghost WIDTH = { 17 };
 
     ghost of = { vehicle_of };
 
     const WIDTH: usize = VEHICLE;
 
-    fn read(row: &[u8]) -> Vehicle {
+    fn from_row(row: &[u8]) -> Vehicle {
         vehicle_of(row)
     }
 }
 
 // Fills a table from rows that stand one behind another.
-fn read_rows<T: Row>(rows: &[u8], table: &mut [T])
+fn read_rows<T: FromRow>(rows: &[u8], table: &mut [T])
     requires { T.WIDTH * length table.old ≤ length rows.now }
     ensures { table.new ≡ map T.of (rows_of T.WIDTH (length table.old) rows.now) }
 {
     let mut rest = rows;
     for slot in table.iter_mut() {
         let (row, more) = rest.split_at(T::WIDTH);
-        *slot = T::read(row);
+        *slot = T::from_row(row);
         rest = more;
     }
 }

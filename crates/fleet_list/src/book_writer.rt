@@ -1,5 +1,5 @@
 // Writing a book from tables.
-ghost use Rattle.std.specs.Prelude.{◌<◌, ◌≤◌, [], ◌∷◌, length};
+ghost use Rattle.std.specs.Prelude.{◌<◌, ◌≤◌, length};
 ghost use Rattle.std.specs.List.{flat_map};
 ghost use Rattle.fleet.specs.Books.{book_of, two, vehicle_row};
 ghost use Rattle.fleet_list.specs.Entries.{head_row};
@@ -15,13 +15,12 @@ const VERSION: u8 = 1;
 
 const RELEASE: u8 = 0;
 
-fn put_version(out: &mut [u8]) -> usize
-    requires { 2 ≤ length out.old }
-    ensures { Written (1 ∷ 0 ∷ []) out.old result out.new }
+fn put_bytes(out: &mut [u8], bytes: &[u8]) -> usize
+    requires { length bytes.now ≤ length out.old }
+    ensures { Written bytes.now out.old result out.new }
 {
-    out[0] = VERSION;
-    out[1] = RELEASE;
-    2
+    out[0..bytes.len()].copy_from_slice(bytes);
+    bytes.len()
 }
 
 // A number in two bytes, high byte first.
@@ -30,17 +29,7 @@ fn put_count(out: &mut [u8], n: usize) -> usize
     requires small { n < 65536 }
     ensures { Written (two n) out.old result out.new }
 {
-    out[0] = (n / 256) as u8;
-    out[1] = (n % 256) as u8;
-    2
-}
-
-fn put_bytes(out: &mut [u8], bytes: &[u8]) -> usize
-    requires { length bytes.now ≤ length out.old }
-    ensures { Written bytes.now out.old result out.new }
-{
-    out[0..bytes.len()].copy_from_slice(bytes);
-    bytes.len()
+    put_bytes(out, &(n as u16).to_be_bytes())
 }
 
 /// The rows of a book.
@@ -76,7 +65,7 @@ pub fn put_book(out: &mut [u8], consists: Consists) -> usize
     ensures { Written (book_of (items_in consists.entry)) out.old result out.new }
 {
     let Consists { heads, vehicles } = consists;
-    let mut at = put_version(out);
+    let mut at = put_bytes(out, &[VERSION, RELEASE]);
     at += put_count(&mut out[at..], heads.len());
     at += put_each::<Row, Head>(&mut out[at..], heads);
     at += put_count(&mut out[at..], vehicles.len());

@@ -17,24 +17,24 @@ sized hs vs room e l = omega (arith, ap length (book_parts hs vs e), parts_long 
 pub put_each-at-requires : goal.put_each-at-requires
 put_each-at-requires c =
     let l = sized c.args.consists.heads.now c.args.consists.vehicles.now _ c.args.consists.sums c.requires.room in
-    let a = lend c.put_version-at.ensures c.put_count-at.ensures refl in
-    tail_room _ (c.put_version-at.result + c.put_count-at.result) _ (omega (arith, c.put_version-at.ensures.long, c.put_count-at.ensures.long, same_length a))
+    let a = lend c.put_bytes-at.ensures c.put_count-at.ensures refl in
+    tail_room _ (c.put_bytes-at.result + c.put_count-at.result) _ (omega (arith, c.put_bytes-at.ensures.long, c.put_count-at.ensures.long, same_length a))
 
 pub put_count-at-requires-2-clause-room : goal.put_count-at-requires-2-clause-room
 put_count-at-requires-2-clause-room c =
     let l = sized c.args.consists.heads.now c.args.consists.vehicles.now _ c.args.consists.sums c.requires.room in
-    let a = lend (lend c.put_version-at.ensures c.put_count-at.ensures refl) c.put_each-at.ensures refl in
-    tail_room _ (c.put_version-at.result + c.put_count-at.result + c.put_each-at.result) _
-    (omega (arith, c.put_version-at.ensures.long, c.put_count-at.ensures.long, c.put_each-at.ensures.long, same_length a))
+    let a = lend (lend c.put_bytes-at.ensures c.put_count-at.ensures refl) c.put_each-at.ensures refl in
+    tail_room _ (c.put_bytes-at.result + c.put_count-at.result + c.put_each-at.result) _
+    (omega (arith, c.put_bytes-at.ensures.long, c.put_count-at.ensures.long, c.put_each-at.ensures.long, same_length a))
 
 pub put_each-at-requires-2 : goal.put_each-at-requires-2
 put_each-at-requires-2 c =
     let l = sized c.args.consists.heads.now c.args.consists.vehicles.now _ c.args.consists.sums c.requires.room in
-    let a = lend (lend (lend c.put_version-at.ensures c.put_count-at.ensures refl) c.put_each-at.ensures refl) c.put_count-at-2.ensures refl in
-    tail_room _ (c.put_version-at.result + c.put_count-at.result + c.put_each-at.result + c.put_count-at-2.result) _
-    (omega (arith, c.put_version-at.ensures.long, c.put_count-at.ensures.long, c.put_each-at.ensures.long, c.put_count-at-2.ensures.long, same_length a))
+    let a = lend (lend (lend c.put_bytes-at.ensures c.put_count-at.ensures refl) c.put_each-at.ensures refl) c.put_count-at-2.ensures refl in
+    tail_room _ (c.put_bytes-at.result + c.put_count-at.result + c.put_each-at.result + c.put_count-at-2.result) _
+    (omega (arith, c.put_bytes-at.ensures.long, c.put_count-at.ensures.long, c.put_each-at.ensures.long, c.put_count-at-2.ensures.long, same_length a))
 
 pub returns : goal.returns
 returns c =
     same_text (sym (book_parts c.args.consists.heads.now c.args.consists.vehicles.now c.args.consists.sums))
-    (lend (lend (lend (lend c.put_version-at.ensures c.put_count-at.ensures refl) c.put_each-at.ensures refl) c.put_count-at-2.ensures refl) c.put_each-at-2.ensures refl)
+    (lend (lend (lend (lend c.put_bytes-at.ensures c.put_count-at.ensures refl) c.put_each-at.ensures refl) c.put_count-at-2.ensures refl) c.put_each-at-2.ensures refl)
