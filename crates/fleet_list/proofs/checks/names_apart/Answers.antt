@@ -4,7 +4,7 @@ use Rattle.train.specs.declared.refusal.Part.TheVariants.{Text}
 use Rattle.train.specs.declared.refusal.Reason.TheVariants.{Repeated}
 use Rattle.fleet_list.specs.Consists.{item_in, items_in}
 use Rattle.fleet_list.specs.Imports.{names_apart, vehicles_of}
-use Rattle.fleet_list.proofs.Checked.{part_past, part_here, part_all, stands_at, stands_none}
+use Rattle.fleet_list.proofs.Checked.{part_past, part_here, stands_at}
 use Rattle.fleet_list.proofs.Gathers.{length-gathered}
 use Rattle.fleet_list.proofs.checks.names_apart.Goals as goal
 
@@ -29,8 +29,3 @@ loop-i-preserved c =
     let all = items_in c.args.consists in
     let at = stands_at all c.loop-i.i-iterator.count (item_in c.in-Some.consist) _ (c.loop-i.invariant.2 ∙ h.0) in
     rw h.2 ((tt, tt, inl (omega (arith, ap length at.2, length-drop (c.loop-i.i-iterator.count + 1) all, length-gathered c.args.consists.heads.now c.args.consists.vehicles.now))), tt, at.2, c.loop-i.invariant.3 ∙ part_past (alone names_apart) Repeated vehicles_of all c.loop-i.i-iterator.count (item_in c.in-Some.consist) [] _ (ap vehicles_of (sym at.1)) at.0 (sym c.are_apart.ensures ∙ c.if-not-are_apart.false))
-
-pub returns : goal.returns
-returns c =
-    let h = c.in-None.ensures.steps in
-    sym (ap (breach Text) c.loop-i.invariant.3 ∙ part_all (alone names_apart) Repeated vehicles_of (items_in c.args.consists) c.loop-i.i-iterator.count Text (stands_none (items_in c.args.consists) c.loop-i.i-iterator.count (c.loop-i.invariant.2 ∙ h.0.0)))

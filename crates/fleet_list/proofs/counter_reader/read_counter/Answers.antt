@@ -1,6 +1,6 @@
 use Rattle.std.proofs.Common.{◌≡◌, ◌<◌, length, get_or, rules, arith}
-use Rattle.fleet_list.proofs.Counting.{counting_more, counting_stuck, counting_done}
-use Rattle.fleet_list.proofs.Cursors.{passed_on, say_more, not_at, at_refused}
+use Rattle.fleet_list.proofs.Counting.{counting_stuck, counting_done}
+use Rattle.fleet_list.proofs.Cursors.{passed_on, say_more, not_at}
 use Rattle.fleet_list.proofs.counter_reader.read_counter.Goals as goal
 use Rattle.fleet_list.proofs.counter_reader.read_counter.Goals.{After-take, then-value-eq0, else-value-eq0+then-not-is_at}
 
@@ -11,12 +11,6 @@ no_space c l e = elim c.if-value-eq0.branch [ then-value-eq0 w ↦ w.if-value-eq
 pub returns-in_err-value : goal.returns-in_err-value
 returns-in_err-value c =
     passed_on c.from_residual.ensures.1 (counting_stuck (no_space (goal.at.returns-in_err-value c).After-take) c.loop-value.invariant (say_more c.in_err-value.ensures (λ x o p. search rules)))
-
-pub loop-value-preserved : goal.loop-value-preserved
-loop-value-preserved c = counting_more (no_space (goal.at.loop-value-preserved c).After-take) c.loop-value.invariant (say_more c.in_ok-value.ensures (λ x o p. search rules))
-
-pub returns-in_err-expect : goal.returns-in_err-expect
-returns-in_err-expect c = absurd (at_refused (c.is_at.ensures.0 c.if-not-is_at.false) c.in_err-expect.ensures)
 
 pub returns : goal.returns
 returns c = counting_done (omega (arith, c.if-value-eq0.false)) c.loop-value.invariant c.in_ok-expect.ensures

@@ -22,11 +22,8 @@ returns-then-out-need c = (
   refl,
 )
 
-pub put_book-requires : goal.put_book-requires
-put_book-requires c = record {
-  small = (omega (arith, c.requires.few), omega (arith, c.requires.small));
-  room = let e = need_is c.args.consists.heads.now c.args.consists.vehicles.now c.args.consists.sums c.requires.lines in omega (arith, c.if-out-need.false);
-}
+pub put_book-requires-clause-room : goal.put_book-requires-clause-room
+put_book-requires-clause-room c = let e = need_is c.args.consists.heads.now c.args.consists.vehicles.now c.args.consists.sums c.requires.lines in omega (arith, c.if-out-need.false)
 
 pub returns : goal.returns
 returns c = (

@@ -1,5 +1,5 @@
 use Rattle.std.proofs.Common.{arith}
-use Rattle.fleet_list.proofs.Rows.{passed_more, passed_all}
+use Rattle.fleet_list.proofs.Rows.{passed_more}
 use Rattle.fleet_list.proofs.list_reader.read_list.Goals as goal
 
 pub loop-cursor-preserved : goal.loop-cursor-preserved
@@ -8,7 +8,3 @@ loop-cursor-preserved c =
     c.min.result c.min-from.result _ c.in_ok-head.head c.min.ensures c.min-from.ensures c.loop-cursor.invariant
     (omega arith) (omega arith) c.in_ok-head.ensures.count c.in_ok-head.ensures.answer
     c.next_line.ensures.text c.next_line.ensures.at c.next_line.ensures.line
-
-pub returns : goal.returns
-returns c =
-    passed_all _ _ _ _ _ _ c.loop-cursor.invariant (omega (arith, c.loop-cursor.invariant.start, c.is_at_end.ensures.0 c.loop-cursor-test.false))

@@ -1,7 +1,7 @@
 use Rattle.std.proofs.Common.{◌≡◌, ℕ, Some, None, Option, ⊎_elim, ◌∷◌, [], sym, refl, ap, ◌∙◌, arith}
 use Rattle.fleet_list.specs.Parts.{same, Letter, Plain, Marked}
 use Rattle.fleet_list.specs.Texts.{escaped}
-use Rattle.fleet_list.proofs.Cursors.{Makes, one_taken, not_at, at_refused, behind_byte}
+use Rattle.fleet_list.proofs.Cursors.{Makes, one_taken, not_at, behind_byte}
 use Rattle.fleet_list.proofs.Letters.{Hidden, only, Starts, first_letter, first_hidden, show, hide}
 use Rattle.fleet_list.proofs.name_reader.read_letter.Goals as goal
 
@@ -15,9 +15,6 @@ marked_makes b None p = λ g. p g.1
 
 pub returns-then-not-is_at : goal.returns-then-not-is_at
 returns-then-not-is_at c = one_taken Letter escaped same Starts 65 (omega arith, omega arith) first_letter c.take.ensures (λ o l p. plain_makes _ o (not_at c.is_at.ensures c.if-not-is_at.true l) p)
-
-pub returns-in_err-expect : goal.returns-in_err-expect
-returns-in_err-expect c = absurd (at_refused (c.is_at.ensures.0 c.if-not-is_at.false) c.in_err-expect.ensures)
 
 pub returns : goal.returns
 returns c =

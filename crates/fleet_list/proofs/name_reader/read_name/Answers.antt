@@ -5,7 +5,7 @@ use Rattle.fleet_list.specs.Texts.{escaped}
 use Rattle.fleet_list.proofs.Cursors.{passed_on, byte_missing, taken_as, stuck_as, not_at}
 use Rattle.fleet_list.proofs.Letters.{Sized, front_letter, apart_letter}
 use Rattle.fleet_list.proofs.Pads.{named, first_quote}
-use Rattle.fleet_list.proofs.Runs.{along_none, item_stuck}
+use Rattle.fleet_list.proofs.Runs.{item_stuck}
 use Rattle.fleet_list.proofs.Spelled.{spelled_more, Spelt, quoted_name, spelt_done, spelt_stuck, spelt_bytes}
 use Rattle.fleet_list.proofs.name_reader.read_name.Goals as goal
 use Rattle.fleet_list.proofs.name_reader.read_name.Goals.{After-expect-2, else-loop-slot-test, then-loop-slot-test+in_ok-slot+then-is_at}
@@ -13,12 +13,6 @@ use Rattle.fleet_list.proofs.name_reader.read_name.Goals.{After-expect-2, else-l
 pub returns-in_err-expect : goal.returns-in_err-expect
 returns-in_err-expect c =
     passed_on c.from_residual.ensures.1 (byte_missing IsName name_text name_bytes 34 (padded (65 ∷ [])) (named (65 ∷ []) ((omega arith, omega arith), ((omega arith, omega arith), tt))) first_quote c.in_err-expect.ensures)
-
-pub loop-slot-init : goal.loop-slot-init
-loop-slot-init c = record {
-  spelled = record { along = along_none Letter escaped c.expect.new.self; long = refl; few = omega arith; blank = refl };
-  onward = λ l _. absurd (omega arith);
-}
 
 pub returns-in_err-slot : goal.returns-in_err-slot
 returns-in_err-slot c =

@@ -2,9 +2,6 @@ use Rattle.std.proofs.Common.{◌/◌, sym, arith}
 use Rattle.fleet_list.proofs.Sizes.{long_one, long_more, decimal_few}
 use Rattle.fleet_list.proofs.text_size.+decimal_size.Goals as goal
 
-pub decimal_size-requires : goal.decimal_size-requires
-decimal_size-requires t c = (omega arith, tt)
-
 pub overflow_add-result : goal.overflow_add-result
 overflow_add-result t c = omega (arith, decimal_few (c.args.n / 10) (omega arith), c.ranges.n.fits)
 
