@@ -1,6 +1,6 @@
 -- What the loops of the checks need, over a part of each entry of a list.
-use Rattle.std.proofs.Common.{◌≡◌, ℕ, ◌+◌, ◌<◌, ◌≤◌, true, false, List, [], ◌∷◌, ◌++◌, map, length, get_or, take, drop, Some, None, sym, refl, ap, ◌∙◌, arith}
-use Rattle.std.proofs.lemmas.List.{get_or-map, take_more}
+use Rattle.std.proofs.Common.{◌≡◌, ℕ, ◌+◌, ◌<◌, ◌≤◌, true, false, List, [], ◌∷◌, ◌++◌, map, length, get_or, take, drop, Some, None, sym, refl, ap, ◌∙◌, arith, length-drop}
+use Rattle.std.proofs.lemmas.List.{get_or-map, take_more, drop_more}
 use Rattle.train.specs.declared.refusal.Part.{Part}
 use Rattle.train.specs.declared.refusal.Place.TheVariants.{At}
 use Rattle.train.specs.declared.refusal.Reason.{Reason}
@@ -38,3 +38,13 @@ met part c cs e = ap (λ o. or_else o (refusal part cs)) e
 
 pub unmet : (part : Part) (c : Check) (cs : List Check) (f : Refusal) → breach part c ≡ Some f → refusal part (c ∷ cs) ≡ Some f
 unmet part c cs f e = ap (λ o. or_else o (refusal part cs)) e
+
+-- what stands at the place behind which ys follow
+pub stands_at : {V : Type 0} (es : List V) (k : ℕ) (x : V) (ys : List V) → drop k es ≡ x ∷ ys → (k < length es) × (get_or es k x ≡ x) × (drop (k + 1) es ≡ ys)
+stands_at es k x ys q =
+    let l : k < length es = omega (arith, ap length q, length-drop k es) in
+    let d = drop_more es k x l in
+    (l, cc, cc)
+
+pub stands_none : {V : Type 0} (es : List V) (k : ℕ) → drop k es ≡ [] → length es ≤ k
+stands_none es k q = omega (arith, ap length q, length-drop k es)

@@ -1,17 +1,21 @@
 -- The four parts of a line, and the line.
-use Rattle.std.proofs.Common.{◌≡◌, ℕ, suc, ◌+◌, List, [], ◌∷◌, ◌++◌, map, length, drop, decimal, sym, refl, ap, ◌∙◌, subst, append_assoc, arith}
+use Rattle.std.proofs.Common.{◌≡◌, ℕ, suc, ◌+◌, List, [], ◌∷◌, ◌++◌, map, length, drop, decimal, Ok, Err, sym, refl, ap, ◌∙◌, subst, append_assoc, arith}
 use Rattle.std.specs.List.{flat_map, AllByRecursion}
 use Rattle.train.specs.declared.entries.Vehicle.{Vehicle}
 use Rattle.train.specs.declared.facing.Facing.TheVariants.{Direct}
 use Rattle.train.specs.declared.refusal.Refusal.{Refusal}
 use Rattle.fleet.specs.Fleets.{IsVehicle}
 use Rattle.fleet.specs.Books.{Item}
-use Rattle.fleet_list.specs.Forms.{Front, Both, joint, Breaks, Reads, Refused}
-use Rattle.fleet_list.specs.Parts.{GoodCar, car, car_of, cars, spaced, Car, Few, others, Bytes, bytes_text}
+use Rattle.train.specs.declared.identity.Identity.{Identity}
+use Rattle.fleet_list.specs.declared.cursor.Cursor.{Cursor}
+use Rattle.fleet_list.specs.Cursors.{Takes}
+use Rattle.fleet_list.specs.Forms.{Front, Both, joint, Breaks, Reads}
+use Rattle.fleet_list.specs.Parts.{same, bytes_of, GoodCar, car, car_of, cars, spaced, Car, Few, others, Bytes, bytes_text}
 use Rattle.fleet_list.specs.Texts.{byte_text, vehicle_text}
 use Rattle.fleet_list.specs.Counters.{Counter, counter_text}
 use Rattle.fleet_list.specs.Lists.{IsLine, line_text}
-use Rattle.fleet_list.proofs.Seq.{reads_both, refused_first, refused_second, refused_same, same_breaks, front_both}
+use Rattle.fleet_list.proofs.Cursors.{both_taken, first_stuck, second_stuck, stuck_same, taken_as}
+use Rattle.fleet_list.proofs.Seq.{same_breaks, front_both}
 use Rattle.fleet_list.proofs.Hex.{front_identity}
 use Rattle.fleet_list.proofs.Digits.{front_counter}
 use Rattle.fleet_list.proofs.Pads.{named}
@@ -40,11 +44,11 @@ abbrev pub parts_text : Parts → List ℕ
 parts_text = joint bytes_text tail_text
 
 -- the vehicle "A"+
-abbrev some : Car
+abbrev pub some : Car
 some = (Rattle.train.specs.Names.padded (65 ∷ []), Direct)
 
-some_good : GoodCar some
-some_good = (named (65 ∷ []) (record { some = omega arith; few = omega arith; plain = ((omega arith, omega arith), tt) }), refl)
+pub some_good : GoodCar some
+some_good = (named (65 ∷ []) ((omega arith, omega arith), ((omega arith, omega arith), tt)), refl)
 
 some_cars : GoodCars (some, [])
 some_cars = (some_good, (omega arith, tt))
@@ -67,10 +71,6 @@ cars-vehicles (v ∷ vs) = ap (λ z. spaced v ++ z) (cars-vehicles vs)
 vehicles-cars : (vs : List Vehicle) → map vehicle_of (cars vs) ≡ vs
 vehicles-cars [] = refl
 vehicles-cars (v ∷ vs) = ap (λ z. v ∷ z) (vehicles-cars vs)
-
-vehicles_text : (vs : List Vehicle) → flat_map spaced (cars vs) ≡ flat_map vehicle_text vs
-vehicles_text [] = refl
-vehicles_text (v ∷ vs) = ap (λ z. vehicle_text v ++ z) (vehicles_text vs)
 
 pub length-map : {A B : Type 0} (f : A → B) (xs : List A) → length (map f xs) ≡ length xs
 length-map f [] = refl
@@ -125,9 +125,6 @@ back i g = let b = back_by i g i.consist.vehicles refl in (b.0, b.1, b.2)
 pub line_breaks : (t : List ℕ) (k : ℕ) → Breaks GoodParts parts_text t k → Breaks IsLine line_text t k
 line_breaks t k b = same_breaks GoodParts parts_text IsLine line_text t k into back b
 
-line_refused : (t : List ℕ) (from line : ℕ) (x : Refusal) → Refused GoodParts parts_text t from line x → Refused IsLine line_text t from line x
-line_refused t from line x r = refused_same GoodParts parts_text IsLine line_text t from line x into back r
-
 front_parts : Front GoodParts parts_text
 front_parts =
     front_both (Bytes 16) bytes_text GoodTail tail_text (front_identity 16)
@@ -142,34 +139,43 @@ front_line v v' w w' g g' e =
 
 -- the exits of the reader of a line
 
-pub in_identity : (t : List ℕ) (from line : ℕ) (x : Refusal) → Refused (Bytes 16) bytes_text t from line x → Refused IsLine line_text t from line x
-in_identity t from line x r = line_refused t from line x (refused_first (Bytes 16) bytes_text GoodTail tail_text t from line x (1, (some, [])) some_tail r)
+stuck_line : {S : Type 0} {c d : Cursor} {x : Refusal} (to : S → Item) → Takes {R = Parts} GoodParts parts_text same c d (Err x) → Takes IsLine line_text to c d (Err x)
+stuck_line to a = stuck_same GoodParts parts_text IsLine line_text to into back a
 
-pub in_counter : (t : List ℕ) (from a line : ℕ) (x : Refusal) (i : List ℕ) → Reads (Bytes 16) bytes_text t from i a → Refused Counter counter_text t a line x → Refused IsLine line_text t from line x
-in_counter t from a line x i ri r =
-    line_refused t from line x
-    (refused_second (Bytes 16) bytes_text GoodTail tail_text t from a line x i (front_identity 16) ri (refused_first Counter counter_text GoodCars cars_text t a line x (some, []) some_cars r))
+module _ {S : Type 0} (to : S → Item) where
+  pub in_identity : {c d : Cursor} {x : Refusal} → Takes (Bytes 16) bytes_text bytes_of c d (Err x) → Takes IsLine line_text to c d (Err x)
+  in_identity a = stuck_line to (first_stuck (Bytes 16) bytes_text GoodTail tail_text same (1, (some, [])) some_tail a)
 
-pub in_first_car : (t : List ℕ) (from a b line : ℕ) (x : Refusal) (i : List ℕ) (n : ℕ) → Reads (Bytes 16) bytes_text t from i a → Reads Counter counter_text t a n b → Refused GoodCar car t b line x → Refused IsLine line_text t from line x
-in_first_car t from a b line x i n ri rn r =
-    line_refused t from line x
-    (refused_second (Bytes 16) bytes_text GoodTail tail_text t from a line x i (front_identity 16) ri
-    (refused_second Counter counter_text GoodCars cars_text t a b line x n front_counter rn
-    (refused_first GoodCar car (Few 31) others t b line x [] (omega arith, tt) r)))
+  pub in_counter : {c d e : Cursor} {i : Identity} {x : Refusal} → Takes (Bytes 16) bytes_text bytes_of c d (Ok i) → Takes Counter counter_text same d e (Err x) → Takes IsLine line_text to c e (Err x)
+  in_counter a b =
+      stuck_line to
+      (second_stuck (Bytes 16) bytes_text GoodTail tail_text same (front_identity 16) a (first_stuck Counter counter_text GoodCars cars_text same (some, []) some_cars b))
 
-pub in_others : (t : List ℕ) (from a b c line : ℕ) (x : Refusal) (i : List ℕ) (n : ℕ) (v : Car) → Reads (Bytes 16) bytes_text t from i a → Reads Counter counter_text t a n b → Reads GoodCar car t b v c → Refused (Few 31) others t c line x → Refused IsLine line_text t from line x
-in_others t from a b c line x i n v ri rn rv r =
-    line_refused t from line x
-    (refused_second (Bytes 16) bytes_text GoodTail tail_text t from a line x i (front_identity 16) ri
-    (refused_second Counter counter_text GoodCars cars_text t a b line x n front_counter rn
-    (refused_second GoodCar car (Few 31) others t b c line x v front_car rv r)))
+  pub in_first_car : {c d e f : Cursor} {i : Identity} {n : ℕ} {x : Refusal} → Takes (Bytes 16) bytes_text bytes_of c d (Ok i) → Takes Counter counter_text same d e (Ok n) → Takes GoodCar car car_of e f (Err x) → Takes IsLine line_text to c f (Err x)
+  in_first_car a b k =
+      stuck_line to
+      (second_stuck (Bytes 16) bytes_text GoodTail tail_text same (front_identity 16) a
+      (second_stuck Counter counter_text GoodCars cars_text same front_counter b
+      (first_stuck GoodCar car (Few 31) others same [] (omega arith, tt) k)))
 
-pub whole : (t : List ℕ) (from a b c d : ℕ) (i : List ℕ) (n : ℕ) (v : Vehicle) (vs : List Vehicle) → Reads (Bytes 16) bytes_text t from i a → Reads Counter counter_text t a n b → Reads GoodCar car t b (car_of v) c → Reads (Few 31) others t c (cars vs) d
-    → Reads IsLine line_text t from (record { identity = record { bytes = i }; consist = record { counter = n; vehicles = v ∷ vs } }) d
-whole t from a b c d i n v vs ri rn rv ro =
-    let r = reads_both (Bytes 16) bytes_text GoodTail tail_text t from a d i (n, (car_of v, cars vs)) ri
-    (reads_both Counter counter_text GoodCars cars_text t a b d n (car_of v, cars vs) rn
-    (reads_both GoodCar car (Few 31) others t b c d (car_of v) (cars vs) rv ro)) in
-    let e = line_parts (i, (n, (car_of v, cars vs))) in
-    subst (λ z. Reads IsLine line_text t from (record { identity = record { bytes = i }; consist = record { counter = n; vehicles = v ∷ z } }) d) (vehicles-cars vs)
-    (record { good = good_line (i, (n, (car_of v, cars vs))) r.good; here = r.here ∙ ap (λ z. z ++ drop d t) (sym e); long = r.long ∙ ap (λ z. from + length z) (sym e); within = r.within })
+  pub in_others : {R : Type 0} {of : R → List Car} {c d e f g : Cursor} {i : Identity} {n : ℕ} {v : Vehicle} {x : Refusal} → Takes (Bytes 16) bytes_text bytes_of c d (Ok i) → Takes Counter counter_text same d e (Ok n) → Takes GoodCar car car_of e f (Ok v) → Takes (Few 31) others of f g (Err x) → Takes IsLine line_text to c g (Err x)
+  in_others a b k o =
+      stuck_line to
+      (second_stuck (Bytes 16) bytes_text GoodTail tail_text same (front_identity 16) a
+      (second_stuck Counter counter_text GoodCars cars_text same front_counter b
+      (second_stuck GoodCar car (Few 31) others same front_car k o)))
+
+pub whole : {S R₄ : Type 0} (to : S → Item) {of₄ : R₄ → List Car} {c d e f g : Cursor} {i : Identity} {n : ℕ} {v : Vehicle} {m : R₄} (s : S) (vs : List Vehicle) → of₄ m ≡ cars vs → to s ≡ record { identity = i; consist = record { counter = n; vehicles = v ∷ vs } }
+    → Takes (Bytes 16) bytes_text bytes_of c d (Ok i) → Takes Counter counter_text same d e (Ok n) → Takes GoodCar car car_of e f (Ok v) → Takes (Few 31) others of₄ f g (Ok m) → Takes IsLine line_text to c g (Ok s)
+whole to {of₄} {c} {d} {e} {f} {g} {i} {n} {v} {m} s vs q h ri rn rv ro =
+    let p : Parts = (i.bytes, (n, (car_of v, cars vs))) in
+    let ro' = taken_as (Few 31) others same (cars vs) (sym q) ro in
+    let t : Takes {R = Parts} GoodParts parts_text same c g (Ok p) =
+    both_taken (Bytes 16) bytes_text GoodTail tail_text same ri
+    (both_taken Counter counter_text GoodCars cars_text same rn (both_taken GoodCar car (Few 31) others same rv ro' refl) refl) refl in
+    let same_item : item_of p ≡ to s = ap (λ z. record { identity = i; consist = record { counter = n; vehicles = v ∷ z } }) (vehicles-cars vs) ∙ sym h in
+    record {
+      stays = t.stays;
+      answer = subst (λ z. Reads IsLine line_text c.text.now c.at z g.at) same_item
+          (record { good = good_line p t.answer.good; here = t.answer.here ∙ ap (λ z. z ++ drop g.at c.text.now) (sym (line_parts p)); long = t.answer.long ∙ ap (λ z. c.at + length z) (sym (line_parts p)); within = t.answer.within });
+    }

@@ -1,5 +1,5 @@
 -- Consists in tables.
-use Rattle.std.proofs.Common.{◌≡◌, ℕ, suc, ◌+◌, ◌<◌, ◌≤◌, List, [], ◌∷◌, ◌++◌, length, get_or, take, drop, sym, refl, ap, ◌∙◌, ap₂, append_assoc, arith, length-drop, take-take, drop-drop}
+use Rattle.std.proofs.Common.{◌≡◌, suc, ◌+◌, ◌≤◌, List, [], ◌∷◌, ◌++◌, length, take, drop, sym, refl, ap, ◌∙◌, ap₂, append_assoc, arith, length-drop, take-take, drop-drop}
 use Rattle.std.proofs.lemmas.List.{drop-take, drop_more}
 use Rattle.train.specs.declared.entries.Vehicle.{Vehicle}
 use Rattle.fleet_list.specs.declared.tables.Head.{Head}
@@ -47,33 +47,3 @@ gathered-vehicles (h ∷ hs) vs l =
     let w : n ≤ n + m = omega arith in
     ap (λ z. take n vs ++ z) (gathered-vehicles hs (drop n vs) (omega (arith, length-drop n vs)) ∙ sym (drop-take n m vs)) ∙ ap (λ z. z ++ drop n (take (n + m) vs)) (sym (take-take n (n + m) vs w))
     ∙ lib.ListN.take-append-drop n (take (n + m) vs)
-
--- a walk over the heads: i of them are behind, and so are the first `from` vehicles
-pub record Walk (hs : List Head) (vs : List Vehicle) (i from : ℕ) : Type 0 where
-  pub rest : drop i (gathered hs vs) ≡ gathered (drop i hs) (drop from vs)
-  pub left : from + counts (drop i hs) ≤ length vs
-
-pub walk_none : (hs : List Head) (vs : List Vehicle) → counts hs ≤ length vs → Walk hs vs 0 0
-walk_none hs vs l = record { rest = refl; left = omega arith }
-
-counts_next : (hs : List Head) (i : ℕ) (d : Head) → i < length hs → counts (drop i hs) ≡ (get_or hs i d).count + counts (drop (i + 1) hs)
-counts_next hs i d l = ap counts (drop_more hs i d l)
-
-walk_here : (hs : List Head) (vs : List Vehicle) (i from : ℕ) (d : Head) → Walk hs vs i from → i < length hs → drop i (gathered hs vs) ≡ item_of (get_or hs i d) (drop from vs) ∷ gathered (drop (i + 1) hs) (drop (from + (get_or hs i d).count) vs)
-walk_here hs vs i from d w l =
-    w.rest ∙ ap (λ z. gathered z (drop from vs)) (drop_more hs i d l) ∙ ap (λ z. item_of (get_or hs i d) (drop from vs) ∷ gathered (drop (i + 1) hs) z) (drop-drop (get_or hs i d).count from vs)
-
-pub walk_fits : (hs : List Head) (vs : List Vehicle) (i from : ℕ) (d : Head) → Walk hs vs i from → i < length hs → from + (get_or hs i d).count ≤ length vs
-walk_fits hs vs i from d w l = omega (arith, w.left, counts_next hs i d l)
-
--- the consist at i
-pub walk_item : (hs : List Head) (vs : List Vehicle) (i from : ℕ) (d : Head) (e : Item) → Walk hs vs i from → i < length hs → get_or (gathered hs vs) i e ≡ item_of (get_or hs i d) (drop from vs)
-walk_item hs vs i from d e w l =
-    let k : i < length (gathered hs vs) = omega (arith, length-gathered hs vs) in
-    let a = drop_more (gathered hs vs) i e k in
-    let b = walk_here hs vs i from d w l in
-    cc
-
-pub walk_more : (hs : List Head) (vs : List Vehicle) (i from : ℕ) (d : Head) → Walk hs vs i from → i < length hs → Walk hs vs (i + 1) (from + (get_or hs i d).count)
-walk_more hs vs i from d w l =
-    record { rest = sym (drop-drop 1 i (gathered hs vs)) ∙ ap (drop 1) (walk_here hs vs i from d w l); left = omega (arith, w.left, counts_next hs i d l) }

@@ -1,9 +1,13 @@
 mod Seq
+mod Cursors
+mod Series
+mod Runs
+mod Counting
 mod Stops
 mod Digits
-mod Turns
-mod Link
+mod Letters
 mod Pads
+mod Spelled
 mod Hex
 mod Cars
 mod Four

@@ -1,27 +1,64 @@
 -- Rows read into a table, one after another; and the fleet that the tables then hold.
-use Rattle.std.proofs.Common.{◌≡◌, ℕ, ◌+◌, ◌-◌, ◌*◌, ◌<◌, ◌≤◌, List, [], ◌∷◌, ◌++◌, map, length, get_or, take, drop, set, sym, refl, ap, ◌∙◌, subst, ap₂, arith, length-drop, length-take-le}
-use mathlib.Core.List.{map-append}
-use Rattle.std.proofs.lemmas.List.{take_more, take_more_set, take_all, take-map, drop-map, take_rest}
+use Rattle.std.proofs.Common.{◌≡◌, ℕ, zero, suc, ◌+◌, ◌-◌, ◌*◌, ◌<◌, ◌≤◌, List, [], ◌∷◌, ◌++◌, map, length, get_or, take, drop, set, sym, refl, ap, ◌∙◌, subst, ap₂, append_assoc, append-nil, zero-add, arith, length-drop, length-set, length-take-le}
+use Rattle.std.proofs.Math.Nat.{mul-suc}
+use Rattle.std.proofs.lemmas.List.{take_more_set, take_all, take_at, take-map, drop-map, take_rest}
 use Rattle.train.specs.declared.entries.Vehicle.{Vehicle}
 use Rattle.fleet.specs.Books.{listed, vehicle_of, count_of, total_of, entries_of, tail_of, table_of}
 use Rattle.fleet.specs.Rows.{rows, size_of, sizes}
-use Rattle.fleet.specs.Entries.{rows_at, length-rows}
+use Rattle.fleet.specs.Entries.{length-rows}
 use Rattle.fleet_list.specs.declared.tables.Head.{Head}
 use Rattle.fleet_list.specs.Entries.{head_of, IsLong, Loaded}
 use Rattle.fleet_list.specs.Tables.{gathered, counts}
+use Rattle.fleet_list.proofs.Four.{length-map}
 
--- one row more
-pub row_more : {B : Type 0} (w n : ℕ) (bs : List ℕ) (f : List ℕ → B) (out : List B) (i k : ℕ) (x : B) → take i out ≡ map f (take i (rows w n bs)) → i < n → i < length out → k ≡ w → x ≡ f (take k (drop (i * w) bs))
-    → take (i + 1) (set out i x) ≡ map f (take (i + 1) (rows w n bs))
-row_more w n bs f out i k x e l m ek ex =
-    let r : x ≡ f (get_or (rows w n bs) i []) = ex ∙ ap (λ k. f (take k (drop (i * w) bs))) ek ∙ ap f (sym (rows_at w n bs i [] l)) in
-    take_more_set out i x m ∙ ap₂ (λ xs y. xs ++ y ∷ []) e r
-    ∙ sym (ap (map f) (take_more (rows w n bs) i [] (omega (arith, length-rows w n bs))) ∙ map-append f (take i (rows w n bs)) (get_or (rows w n bs) i [] ∷ []))
+-- i of n rows of w bytes are read into the front of a table
+pub record Reading {B : Type 0} (w : ℕ) (f : List ℕ → B) (bs rest : List ℕ) (n i : ℕ) (table : List B) : Type 0 where
+  pub left : ℕ
+  pub count : i + left ≡ n
+  pub long : length table ≡ n
+  pub fits : w * left ≤ length rest
+  pub done : map f (rows w n bs) ≡ take i table ++ map f (rows w left rest)
 
-pub rows_all : {B : Type 0} (w n : ℕ) (bs : List ℕ) (f : List ℕ → B) (out : List B) (i : ℕ) → take i out ≡ map f (take i (rows w n bs)) → i ≡ n → take n out ≡ map f (rows w n bs)
-rows_all w n bs f out i e h =
-    let t : take n out ≡ map f (take n (rows w n bs)) = subst (λ k. take k out ≡ map f (take k (rows w n bs))) h e in
-    t ∙ ap (map f) (take_all n (rows w n bs) (omega (arith, length-rows w n bs)))
+pub reading_none : {B : Type 0} (w : ℕ) (f : List ℕ → B) (bs : List ℕ) (table : List B) → w * length table ≤ length bs → Reading w f bs bs (length table) 0 table
+reading_none w f bs table l = record { left = length table; count = zero-add (length table); long = refl; fits = l; done = refl }
+
+more_by : {B : Type 0} (w : ℕ) (f : List ℕ → B) (bs rest : List ℕ) (n i : ℕ) (table : List B) (x : B) (left : ℕ) → i + left ≡ n → i < n → length table ≡ n → w * left ≤ length rest → map f (rows w n bs) ≡ take i table ++ map f (rows w left rest) → x ≡ f (take w rest)
+    → Reading w f bs (drop w rest) n (i + 1) (set table i x)
+more_by w f bs rest n i table x zero c l long fits done e = absurd (omega arith)
+more_by w f bs rest n i table x (suc left) c l long fits done e =
+    let m : w * suc left ≡ w * left + w = mul-suc w left in
+    record {
+      left = left;
+      count = omega (arith, c);
+      long = length-set table i x ∙ long;
+      fits = omega (arith, fits, m, length-drop w rest);
+      done = done ∙ ap (λ z. take i table ++ (z ∷ map f (rows w left (drop w rest)))) (sym e) ∙ sym (append_assoc (take i table) (x ∷ []) (map f (rows w left (drop w rest))))
+          ∙ ap (λ z. z ++ map f (rows w left (drop w rest))) (sym (take_more_set table i x (omega (arith, l, long))));
+    }
+
+pub reading_more : {B : Type 0} {w : ℕ} {f : List ℕ → B} {bs rest : List ℕ} {n i : ℕ} {table : List B} (row next : List ℕ) (k : ℕ) (x : B) → Reading w f bs rest n i table → i < n → k ≡ w → row ≡ take k rest → next ≡ drop k rest → x ≡ f row → Reading w f bs next n (i + 1) (set table i x)
+reading_more {w = w} {f = f} {bs = bs} {rest = rest} {n = n} {i = i} {table = table} row next k x r l ek er en e =
+    subst (λ z. Reading w f bs z n (i + 1) (set table i x)) (sym (en ∙ ap (λ j. drop j rest) ek))
+    (more_by w f bs rest n i table x r.left r.count l r.long r.fits r.done (e ∙ ap f (er ∙ ap (λ j. take j rest) ek)))
+
+-- a row is left
+fits_by : (w : ℕ) (rest : List ℕ) (left : ℕ) → 0 < left → w * left ≤ length rest → w ≤ length rest
+fits_by w rest zero l h = absurd (omega arith)
+fits_by w rest (suc left) l h = omega (arith, mul-suc w left, h)
+
+pub reading_fits : {B : Type 0} {w : ℕ} {f : List ℕ → B} {bs rest : List ℕ} {n i : ℕ} {table : List B} → Reading w f bs rest n i table → i < n → w ≤ length rest
+reading_fits r l = fits_by _ _ r.left (omega (arith, r.count, l)) r.fits
+
+pub reading_all : {B : Type 0} {w : ℕ} {f : List ℕ → B} {bs rest : List ℕ} {n i : ℕ} {table : List B} → Reading w f bs rest n i table → n ≤ i → table ≡ map f (rows w n bs)
+reading_all {w = w} {f = f} {bs = bs} {rest = rest} {n = n} {i = i} {table = table} r l =
+    let z : r.left ≡ 0 = omega (arith, r.count, l) in
+    sym (r.done ∙ ap (λ k. take i table ++ map f (rows w k rest)) z ∙ append-nil (take i table) ∙ take_all i table (omega (arith, r.long, l)))
+
+-- n rows at the front of a table
+pub front_rows : {B : Type 0} (w n m : ℕ) (f : List ℕ → B) (bs : List ℕ) (last post : List B) → m ≡ n → last ≡ map f (rows w m bs) → take n (last ++ post) ≡ map f (rows w n bs)
+front_rows w n m f bs last post e l =
+    let k : last ≡ map f (rows w n bs) = l ∙ ap (λ j. map f (rows w j bs)) e in
+    take_at last post n (ap length k ∙ length-map f (rows w n bs) ∙ length-rows w n bs) ∙ k
 
 -- what the rows of a book mean, from the tables
 pub rows-listed : (es vs : List (List ℕ)) → gathered (map head_of es) (map vehicle_of vs) ≡ listed es vs

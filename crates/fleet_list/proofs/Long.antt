@@ -1,7 +1,6 @@
 -- What opening says of the bytes of a book, and how long the list of its fleet can be.
-use Rattle.std.proofs.Common.{◌≡◌, ℕ, ◌+◌, ◌*◌, ◌/◌, ◌%◌, ◌^◌, ◌<◌, ◌≤◌, Bool, true, false, cond, eqb, leb, List, [], ◌∷◌, ◌++◌, length, None, decimal, ap, arith, length-append}
+use Rattle.std.proofs.Common.{◌≡◌, ℕ, ◌+◌, ◌*◌, ◌^◌, ◌<◌, ◌≤◌, eqb, leb, List, [], ◌∷◌, ◌++◌, length, None, decimal, ap, arith, length-append}
 use Rattle.std.specs.List.{flat_map, AllByRecursion}
-use Rattle.std.proofs.lemmas.Fmt.{decimal_by_steps}
 use Rattle.std.proofs.lemmas.Bool.{and_parts, leb-true, eqb-true}
 use Rattle.train.specs.declared.entries.Vehicle.{Vehicle}
 use Rattle.train.specs.declared.refusal.Part.TheVariants.{Book}
@@ -14,9 +13,9 @@ use Rattle.fleet.specs.Heads.{first_met}
 use Rattle.fleet.specs.Whole.{passed}
 use Rattle.fleet_list.specs.Entries.{IsLong}
 use Rattle.fleet_list.specs.Lists.{line_text, list_text}
-use Rattle.fleet_list.specs.Texts.{byte_text, escaped, vehicle_text}
+use Rattle.fleet_list.specs.Texts.{byte_text, vehicle_text}
 use Rattle.fleet_list.proofs.Pads.{text_is}
-use Rattle.fleet_list.proofs.Sizes.{twice, quoted_long, vehicle_long}
+use Rattle.fleet_list.proofs.Sizes.{twice, quoted_long, vehicle_long, decimal_few, escaped_few}
 
 pub is_long : (bs : List ℕ) → refusal Book (book_checks bs) ≡ None → IsLong bs
 is_long bs e =
@@ -33,27 +32,6 @@ is_long bs e =
     }
 
 -- bounds that are large enough
-
-abbrev Few : ℕ → List ℕ → Type 0
-Few n ds = length ds ≤ n + 1
-
-few_one : (n : ℕ) → n < 10 → Few n ((48 + n) ∷ [])
-few_one n l = omega arith
-
-few_more : (n : ℕ) (ds : List ℕ) → 10 ≤ n → Few (n / 10) ds → Few n (ds ++ (48 + n % 10) ∷ [])
-few_more n ds l h = omega (arith, length-append ds ((48 + n % 10) ∷ []), h)
-
-decimal_few : (n : ℕ) → n < 2 ^ 32 → length (decimal n) ≤ n + 1
-decimal_few n l = decimal_by_steps Few few_one few_more n (omega arith)
-
-escaped_by : (b : ℕ) (x y : Bool) → length (cond x (92 ∷ b ∷ []) (cond y (92 ∷ b ∷ []) (b ∷ []))) ≤ 2
-escaped_by b true y = omega arith
-escaped_by b false true = omega arith
-escaped_by b false false = omega arith
-
-escaped_few : (n : List ℕ) → length (flat_map escaped n) ≤ 2 * length n
-escaped_few [] = omega arith
-escaped_few (b ∷ n) = omega (arith, length-append (escaped b) (flat_map escaped n), escaped_by b (eqb b 34) (eqb b 92), escaped_few n)
 
 vehicle_few : (v : Vehicle) → IsVehicle v → length (vehicle_text v) ≤ 34
 vehicle_few v g =

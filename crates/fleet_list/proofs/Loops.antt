@@ -1,39 +1,48 @@
--- Texts of elements written one behind another: p is written before them, and s bytes follow them.
-use Rattle.std.proofs.Common.{◌≡◌, ℕ, ◌+◌, ◌-◌, ◌<◌, ◌≤◌, List, [], ◌∷◌, ◌++◌, length, get_or, take, drop, set, sym, refl, ap, ◌∙◌, arith, length-append, length-drop, length-set, drop-set-lt}
+-- Texts of values written one behind another.
+use Rattle.std.proofs.Common.{◌≡◌, ℕ, ◌+◌, ◌-◌, ◌<◌, ◌≤◌, List, [], ◌∷◌, ◌++◌, length, get_or, take, drop, sym, refl, ap, ◌∙◌, subst, append_assoc, append-nil, arith, length-append, length-drop}
 use borrow.Rule.Slice.PartMut.{put_mid}
 use Rattle.std.specs.List.{flat_map}
-use Rattle.std.proofs.lemmas.List.{take_more, take_all, flat_map_more, at_drop_more, take_rest}
+use Rattle.std.proofs.lemmas.List.{flat_map_more, take_rest, drop_more, drop_all}
 use Rattle.fleet_list.specs.Writes.{Written}
-use Rattle.fleet_list.proofs.Behind.{lend, same_text, same_length}
+use Rattle.fleet_list.proofs.Behind.{lend, same_text, same_length, written_none}
 
-pub record Writing {V : Type 0} (p : List ℕ) (f : V → List ℕ) (es : List V) (s i at : ℕ) (before out : List ℕ) : Type 0 where
-  pub wrote : Written (p ++ flat_map f (take i es)) before at out
-  pub fits : at + length (flat_map f (drop i es)) + s ≤ length before
+-- all but the rest are written
+pub record Writing {V : Type 0} (f : V → List ℕ) (all rest : List V) (at : ℕ) (before out : List ℕ) : Type 0 where
+  pub done : List V
+  pub split : all ≡ done ++ rest
+  pub wrote : Written (flat_map f done) before at out
+  pub fits : at + length (flat_map f rest) ≤ length before
 
-pub next_fits : {V : Type 0} (f : V → List ℕ) (es : List V) (i : ℕ) (d : V) → i < length es → length (flat_map f (drop i es)) ≡ length (f (get_or es i d)) + length (flat_map f (drop (i + 1) es))
-next_fits f es i d l = at_drop_more (λ z. length (flat_map f z)) es i d l ∙ length-append (f (get_or es i d)) (flat_map f (drop (i + 1) es))
+pub writing_none : {V : Type 0} (f : V → List ℕ) (all : List V) (before : List ℕ) → length (flat_map f all) ≤ length before → Writing f all all 0 before before
+writing_none f all before l = record { done = []; split = refl; wrote = written_none before; fits = omega arith }
 
-pub writing_more : {V : Type 0} (p : List ℕ) (f : V → List ℕ) (es : List V) (s i at : ℕ) (before out last : List ℕ) (d : V) (m k : ℕ) → Writing p f es s i at before out → i < length es → Written (f (get_or es i d)) (take k (drop at out)) m last → k ≡ length out - at → Writing p f es s (i + 1) (at + m) before (put_mid at k out last)
-writing_more p f es s i at before out last d m k w l g e = record {
-  wrote = same_text (flat_map_more f p (take i es) (get_or es i d) ∙ ap (λ z. p ++ flat_map f z) (sym (take_more es i d l))) (lend w.wrote g e);
-  fits = omega (arith, w.fits, next_fits f es i d l, g.long);
-}
+-- the next value
+pub writing_at : {V : Type 0} (f : V → List ℕ) {all rest next : List V} {at : ℕ} {before out : List ℕ} → rest ≡ next → Writing f all rest at before out → Writing f all next at before out
+writing_at f {all} {rest} {next} {at} {before} {out} e w = subst (λ z. Writing f all z at before out) e w
 
--- the next element fits into what is left
-pub writing_room : {V : Type 0} (p : List ℕ) (f : V → List ℕ) (es : List V) (s i at : ℕ) (before out : List ℕ) (d : V) → Writing p f es s i at before out → i < length es → at + length (f (get_or es i d)) ≤ length out
-writing_room p f es s i at before out d w l = omega (arith, w.fits, next_fits f es i d l, same_length w.wrote)
+pub writing_next : {V : Type 0} (f : V → List ℕ) {all : List V} (es : List V) {i : ℕ} {x : V} {at : ℕ} {before out : List ℕ} → x ≡ get_or es i x → i < length es → Writing f all (drop i es) at before out → Writing f all (x ∷ drop (i + 1) es) at before out
+writing_next f es {i} {x} e l w = writing_at f (drop_more es i x l ∙ ap (λ z. z ∷ drop (i + 1) es) (sym e)) w
 
-pub writing_all : {V : Type 0} (p : List ℕ) (f : V → List ℕ) (es : List V) (s i at : ℕ) (before out : List ℕ) → Writing p f es s i at before out → length es ≤ i → Written (p ++ flat_map f es) before at out × (at + s ≤ length before)
-writing_all p f es s i at before out w l = (same_text (ap (λ z. p ++ flat_map f z) (take_all i es l)) w.wrote, omega (arith, w.fits))
+module _ {V : Type 0} (f : V → List ℕ) {all : List V} {rest : List V} {x : V} {at : ℕ} {before out : List ℕ} (w : Writing f all (x ∷ rest) at before out) where
+  -- the next value fits into what is left
+  pub writing_room : at + length (f x) ≤ length out
+  writing_room = omega (arith, w.fits, length-append (f x) (flat_map f rest), same_length w.wrote)
+
+  pub writing_more : {last : List ℕ} {m k : ℕ} → Written (f x) (take k (drop at out)) m last → k ≡ length out - at → Writing f all rest (at + m) before (put_mid at k out last)
+  writing_more {last} {m} {k} g e = record {
+    done = w.done ++ x ∷ [];
+    split = w.split ∙ sym (append_assoc w.done (x ∷ []) rest);
+    wrote = same_text (flat_map_more f [] w.done x) (lend w.wrote g e);
+    fits = omega (arith, w.fits, length-append (f x) (flat_map f rest), g.long);
+  }
+
+pub writing_all : {V : Type 0} (f : V → List ℕ) {all : List V} {at : ℕ} {before out : List ℕ} → Writing f all [] at before out → Written (flat_map f all) before at out
+writing_all f w = same_text (ap (flat_map f) (sym (w.split ∙ append-nil w.done))) w.wrote
+
+-- behind the last value of a slice
+pub writing_end : {V : Type 0} (f : V → List ℕ) {all : List V} (es : List V) {i at : ℕ} {before out : List ℕ} → length es ≤ i → Writing f all (drop i es) at before out → Written (flat_map f all) before at out
+writing_end f {all} es {i} {at} {before} {out} l w = writing_all f (subst (λ z. Writing f all z at before out) (drop_all i es l) w)
 
 -- `out[at..]` as it is lent
 pub tail_room : (out : List ℕ) (at n : ℕ) → at + n ≤ length out → n ≤ length (take (length out - at) (drop at out))
 tail_room out at n l = omega (arith, ap length (take_rest out at), length-drop at out)
-
--- a first byte that stands before the loop
-pub start_byte : (xs : List ℕ) (v : ℕ) → 0 < length xs → Written (v ∷ []) (set xs 0 v) 1 (set xs 0 v)
-start_byte [] v l = absurd (omega arith)
-start_byte (x ∷ xs) v l = record { wrote = refl; long = refl; fits = omega arith }
-
-pub unset : {a out : List ℕ} (xs : List ℕ) {n : ℕ} (v : ℕ) → 0 < n → Written a (set xs 0 v) n out → Written a xs n out
-unset {a} {out} xs {n} v l w = record { wrote = w.wrote ∙ ap (λ z. a ++ z) (drop-set-lt n xs 0 v l); long = w.long; fits = omega (arith, w.fits, length-set xs 0 v) }

@@ -1,17 +1,15 @@
 -- Names with zeros behind them: a name of sixteen bytes is written as its text is.
-use Rattle.std.proofs.Common.{◌≡◌, ℕ, zero, suc, ◌+◌, ◌-◌, ◌≤◌, cond, List, [], ◌∷◌, ◌++◌, length, drop, replicate, sym, refl, ap, ◌∙◌, subst, arith, take-append-drop, length-take-le, ne_eqb}
-use Rattle.train.specs.declared.refusal.Refusal.{Refusal}
+use Rattle.std.proofs.Common.{◌≡◌, ℕ, zero, suc, ◌+◌, ◌-◌, ◌≤◌, cond, List, [], ◌∷◌, ◌++◌, length, take, drop, replicate, sym, refl, ap, ◌∙◌, append_assoc, arith, ne_eqb, length-take-le, take-append-drop}
+use Rattle.std.specs.List.{flat_map, AllByRecursion}
+use Rattle.std.proofs.lemmas.List.{replicate_more}
 use Rattle.train.specs.Names.{IsName, text_of, padded}
-use Rattle.fleet_list.specs.declared.name_reader.NameReader.{NameReader}
-use Rattle.fleet_list.specs.Steps.{name_of}
-use Rattle.fleet_list.specs.Texts.{quoted}
-use Rattle.fleet_list.specs.Forms.{Front, Breaks, Reads, Refused}
-use Rattle.fleet_list.specs.Parts.{name_text}
-use Rattle.fleet_list.proofs.Turns.{Filled}
-use Rattle.fleet_list.proofs.Link.{Plain, Good, front_name}
-use Rattle.fleet_list.proofs.Seq.{refused_same, same_breaks}
+use Rattle.fleet_list.specs.Texts.{escaped, quoted}
+use Rattle.fleet_list.specs.Forms.{Front}
+use Rattle.fleet_list.specs.Parts.{Letter, name_text}
+use Rattle.fleet_list.proofs.Letters.{Good, front_name}
+use Rattle.fleet_list.proofs.Seq.{First}
 
-text_padded : (n : List ℕ) (k : ℕ) → Plain n → text_of (n ++ replicate k 0) ≡ n
+text_padded : (n : List ℕ) (k : ℕ) → AllByRecursion Letter n → text_of (n ++ replicate k 0) ≡ n
 text_padded [] zero h = refl
 text_padded [] (suc k) h = refl
 text_padded (b ∷ n) k h = ap (λ z. cond z [] (b ∷ text_of (n ++ replicate k 0))) (ne_eqb b 0 (λ e. omega (arith, h.0.0))) ∙ ap (λ z. b ∷ z) (text_padded n k h.1)
@@ -21,34 +19,29 @@ pub text_is : (bs : List ℕ) (g : IsName bs) → text_of bs ≡ g.text
 text_is bs g = ap text_of g.whole ∙ text_padded g.text (16 - length g.text) g.printed
 
 abbrev pub named : (n : List ℕ) → Good n → IsName (padded n)
-named n g = record { text = n; some = g.some; few = g.few; printed = g.plain; whole = refl }
+named n g = record { text = n; some = omega (arith, g.0.0); few = g.0.1; printed = g.1; whole = refl }
 
 pub texted : (bs : List ℕ) (g : IsName bs) → Good g.text
-texted bs g = record { some = g.some; few = g.few; plain = g.printed }
+texted bs g = ((omega (arith, g.some), g.few), g.printed)
 
-into : (n : List ℕ) → Good n → (bs : List ℕ) × IsName bs × (name_text bs ≡ quoted n)
-into n g = (padded n, named n g, ap quoted (text_is (padded n) (named n g)))
+pub pad_good : (n : List ℕ) → Good n → IsName (padded n) × (name_text (padded n) ≡ quoted n)
+pad_good n g = (named n g, ap quoted (text_is (padded n) (named n g)))
 
-back : (bs : List ℕ) → IsName bs → (n : List ℕ) × Good n × (name_text bs ≡ quoted n)
-back bs g = (g.text, texted bs g, ap quoted (text_is bs g))
+pub pad : (n : List ℕ) → Good n → (bs : List ℕ) × IsName bs × (name_text bs ≡ quoted n)
+pad n g = let p = pad_good n g in (padded n, p.0, p.1)
 
-pub name_breaks : (t : List ℕ) (k : ℕ) → Breaks Good quoted t k → Breaks IsName name_text t k
-name_breaks t k b = same_breaks Good quoted IsName name_text t k into back b
+pub cut : (bs : List ℕ) → IsName bs → (n : List ℕ) × Good n × (name_text bs ≡ quoted n)
+cut bs g = (g.text, texted bs g, ap quoted (text_is bs g))
 
-pub name_refused : (t : List ℕ) (from line : ℕ) (f : Refusal) → Refused Good quoted t from line f → Refused IsName name_text t from line f
-name_refused t from line f r = refused_same Good quoted IsName name_text t from line f into back r
+pub first_quote : First IsName name_text (λ x. x ≡ 34)
+first_quote v g = (34, flat_map escaped (text_of v) ++ 34 ∷ [], refl, refl)
 
-filled : (r : NameReader) → r.len ≤ 16 → Filled r → name_of r ++ replicate (16 - length (name_of r)) 0 ≡ r.name
-filled r len h =
-    let l : length (name_of r) ≡ r.len = length-take-le r.len r.name (omega (arith, h.0, len)) in
-    ap (λ k. name_of r ++ replicate (16 - k) 0) l ∙ ap (λ z. name_of r ++ z) (sym h.1) ∙ take-append-drop r.len r.name
-
-pub name_read : (t : List ℕ) (from : ℕ) (r : NameReader) (end : ℕ) → r.len ≤ 16 → Filled r → Reads Good quoted t from (name_of r) end → Reads IsName name_text t from r.name end
-name_read t from r end len h d =
-    let n = named (name_of r) d.good in
-    let e = ap quoted (text_is (padded (name_of r)) n) in
-    subst (λ z. Reads IsName name_text t from z end) (filled r len h)
-    (record { good = n; here = d.here ∙ ap (λ z. z ++ drop end t) (sym e); long = d.long ∙ ap (λ z. from + length z) (sym e); within = d.within })
+-- sixteen bytes that are these and zeros behind them
+pub pads : (letters : List ℕ) (i : ℕ) → length letters ≡ 15 → i ≤ 15 → drop i letters ≡ replicate (15 - i) 0 → letters ++ 0 ∷ [] ≡ padded (take i letters)
+pads letters i l h z =
+    let k : length (take i letters) ≡ i = length-take-le i letters (omega arith) in
+    ap (λ x. x ++ 0 ∷ []) (sym (take-append-drop i letters) ∙ ap (λ x. take i letters ++ x) z) ∙ append_assoc (take i letters) (replicate (15 - i) 0) (0 ∷ [])
+    ∙ ap (λ x. take i letters ++ x) (replicate_more (15 - i) 0 ∙ ap (λ (n : ℕ). replicate n 0) (let q : 15 - i + 1 ≡ 16 - length (take i letters) = omega arith in q))
 
 pub front_named : Front IsName name_text
 front_named v v' w w' g g' e =

@@ -1,47 +1,50 @@
 -- Lines one behind another, as they go into the tables.
-use Rattle.std.proofs.Common.{◌≡◌, ℕ, ◌+◌, ◌<◌, ◌≤◌, min, List, [], ◌∷◌, ◌++◌, length, take, drop, set, decimal, sym, refl, ap, ◌∙◌, subst, append-nil, arith, length-append, length-drop, length-take-le, drop-drop}
+use Rattle.std.proofs.Common.{◌≡◌, ℕ, ◌+◌, ◌<◌, ◌≤◌, min, List, [], ◌∷◌, ◌++◌, length, take, drop, set, decimal, Ok, Err, sym, refl, ap, ◌∙◌, subst, append_assoc, append-nil, arith, length-append, length-take-le}
 use lib.Seq.{take-append-le}
 use borrow.Rule.Slice.PartMut.{put_mid, post_of}
 use Rattle.std.specs.List.{flat_map, AllByRecursion}
-use Rattle.std.proofs.lemmas.List.{take_more_set, flat_map_more, drop_all, take_at, drop_at}
+use Rattle.std.proofs.lemmas.List.{take_more_set, flat_map_more, take_at, drop_at}
 use Rattle.train.specs.declared.entries.Vehicle.{Vehicle}
 use Rattle.train.specs.declared.refusal.Refusal.{Refusal}
 use Rattle.fleet_list.specs.declared.tables.Head.{Head}
 use Rattle.fleet.specs.Books.{Item, vehicles_in}
-use Rattle.fleet_list.specs.Forms.{Reads, Refused}
+use Rattle.fleet_list.specs.declared.cursor.Cursor.{Cursor}
+use Rattle.fleet_list.specs.Cursors.{Takes}
+use Rattle.fleet_list.specs.Forms.{Breaks, fault}
 use Rattle.fleet_list.specs.Texts.{byte_text, vehicle_text, quoted, sign}
 use Rattle.fleet_list.specs.Lists.{IsLine, line_text, list_text}
 use Rattle.fleet_list.specs.Readings.{Broken, Held, Listed}
 use Rattle.fleet_list.specs.Tables.{item_of, gathered, counts}
 use Rattle.fleet_list.proofs.Gathers.{counts_push, gathered_push, gathered_front, vehicles_push}
-use Rattle.fleet_list.proofs.Seq.{Begun, begun_more, at_place}
+use Rattle.fleet_list.proofs.Seq.{at_place}
+use Rattle.fleet_list.proofs.Series.{all_push}
 
--- lines read so far
-pub record Passed (t : List ℕ) (heads : List Head) (vehicles : List Vehicle) (lines total at : ℕ) : Type 0 where
+-- lines read so far; the cursor begins the next
+pub record Passed (t : List ℕ) (c : Cursor) (heads : List Head) (vehicles : List Vehicle) (lines total : ℕ) : Type 0 where
   pub whole : List Item
   pub good : AllByRecursion IsLine whole
   pub count : length whole ≡ lines
   pub sum : length (vehicles_in whole) ≡ total
-  pub short : lines ≤ at
-  pub small : total ≤ at
-  pub begun : Begun t 0 (list_text whole) at
+  pub here : t ≡ list_text whole ++ c.text.now
+  pub start : c.at ≡ 0
+  pub line : c.line ≡ lines + 1
+  pub short : lines + length c.text.now ≤ length t
+  pub small : total + length c.text.now ≤ length t
   pub held : lines ≤ 200 → total ≤ 2000 → Held whole heads vehicles lines total
 
-pub passed_none : (t : List ℕ) (heads : List Head) (vehicles : List Vehicle) → Passed t heads vehicles 0 0 0
-passed_none t heads vehicles = record {
+pub passed_none : (t : List ℕ) (c : Cursor) (heads : List Head) (vehicles : List Vehicle) → c.text.now ≡ t → c.at ≡ 0 → c.line ≡ 1 → Passed t c heads vehicles 0 0
+passed_none t c heads vehicles e a l = record {
   whole = [];
   good = tt;
   count = refl;
   sum = refl;
-  short = omega arith;
-  small = omega arith;
-  begun = record { here = refl; long = omega arith; within = omega arith };
+  here = sym e;
+  start = a;
+  line = omega arith;
+  short = omega (arith, ap length e);
+  small = omega (arith, ap length e);
   held = λ l m. record { items = refl; sum = refl };
 }
-
-pub all_push : {A : Type 0} (P : A → Type 0) (xs : List A) (x : A) → AllByRecursion P xs → P x → AllByRecursion P (xs ++ x ∷ [])
-all_push P [] x h g = (g, tt)
-all_push P (y ∷ xs) x h g = (h.0, all_push P xs x h.1 g)
 
 vehicles_long : (vs : List Vehicle) → length vs ≤ length (flat_map vehicle_text vs)
 vehicles_long [] = omega arith
@@ -53,13 +56,6 @@ line_long i =
     let c = flat_map vehicle_text i.consist.vehicles in
     let d = decimal i.consist.counter in
     omega (arith, vehicles_long i.consist.vehicles, length-append (flat_map byte_text i.identity.bytes) (32 ∷ (d ++ (c ++ 10 ∷ []))), length-append d (c ++ 10 ∷ []), length-append c (10 ∷ []))
-
-begun_line : (t : List ℕ) (at : ℕ) (v : Item) (len : ℕ) → at ≤ length t → Reads IsLine line_text (drop at t) 0 v len → Begun t at (line_text v) (at + len)
-begun_line t at v len l r = record {
-  here = r.here ∙ ap (λ z. line_text v ++ z) (drop-drop len at t);
-  long = omega (arith, r.long);
-  within = omega (arith, r.within, length-drop at t);
-}
 
 -- one consist more in the tables
 held_more : (is : List Item) (heads : List Head) (vehicles last : List Vehicle) (lines total k : ℕ) (h : Head) → lines < length heads → total ≤ length vehicles → h.count ≤ length last → Held is heads vehicles lines total
@@ -92,40 +88,55 @@ held_on is heads vehicles last lines total slot from k h es ef lh lv n l m g =
     (subst (λ i. Held (is ++ item_of h last ∷ []) (set heads lines h) (put_mid i k vehicles last) (lines + 1) (total + h.count)) (sym b)
     (held_more is heads vehicles last lines total k h (omega arith) (omega arith) n g))
 
-pub passed_more : (t : List ℕ) (heads : List Head) (vehicles last : List Vehicle) (lines total at len slot from k : ℕ) (h : Head) → slot ≡ min lines 200 → from ≡ min total 2000 → Passed t heads vehicles lines total at → at ≤ length t → 200 < length heads → 2032 ≤ length vehicles → h.count ≤ length last → Reads IsLine line_text (drop at t) 0 (item_of h last) len
-    → Passed t (set heads slot h) (put_mid from k vehicles last) (lines + 1) (total + h.count) (at + len)
-passed_more t heads vehicles last lines total at len slot from k h es ef g l lh lv n r =
+pub passed_more : (t : List ℕ) (c d e : Cursor) (heads : List Head) (vehicles last : List Vehicle) (lines total slot from k : ℕ) (h : Head) → slot ≡ min lines 200 → from ≡ min total 2000 → Passed t c heads vehicles lines total → 200 < length heads → 2032 ≤ length vehicles → h.count ≤ length last
+    → Takes IsLine line_text (λ h. item_of h last) c d (Ok h) → e.text.now ≡ drop d.at d.text.now → e.at ≡ 0 → e.line ≡ d.line + 1
+    → Passed t e (set heads slot h) (put_mid from k vehicles last) (lines + 1) (total + h.count)
+passed_more t c d e heads vehicles last lines total slot from k h es ef g lh lv n r et ea el =
     let i = item_of h last in
-    let c : length (take h.count last) ≡ h.count = length-take-le h.count last n in
+    let counted : length (take h.count last) ≡ h.count = length-take-le h.count last n in
     let s = line_long i in
+    let z : drop c.at c.text.now ≡ c.text.now = ap (λ j. drop j c.text.now) g.start in
+    let rest : drop d.at c.text.now ≡ e.text.now = ap (drop d.at) (sym r.stays.text) ∙ sym et in
+    let here : c.text.now ≡ line_text i ++ e.text.now = sym z ∙ r.answer.here ∙ ap (λ x. line_text i ++ x) rest in
+    let long : length c.text.now ≡ length (line_text i) + length e.text.now = ap length here ∙ length-append (line_text i) e.text.now in
     record {
       whole = g.whole ++ i ∷ [];
-      good = all_push IsLine g.whole i g.good r.good;
+      good = all_push IsLine g.whole i g.good r.answer.good;
       count = length-append g.whole (i ∷ []) ∙ omega (arith, g.count);
-      sum = ap length (vehicles_push g.whole i) ∙ length-append (vehicles_in g.whole) (take h.count last) ∙ omega (arith, g.sum, c);
-      short = omega (arith, g.short, s, r.long);
-      small = omega (arith, g.small, s, c, r.long);
-      begun = subst (λ z. Begun t 0 z (at + len)) (flat_map_more line_text [] g.whole i) (begun_more t 0 (list_text g.whole) at (line_text i) (at + len) g.begun (begun_line t at i len l r));
+      sum = ap length (vehicles_push g.whole i) ∙ length-append (vehicles_in g.whole) (take h.count last) ∙ omega (arith, g.sum, counted);
+      here = g.here ∙ ap (λ x. list_text g.whole ++ x) here ∙ sym (append_assoc (list_text g.whole) (line_text i) e.text.now) ∙ ap (λ x. x ++ e.text.now) (flat_map_more line_text [] g.whole i);
+      start = ea;
+      line = el ∙ omega (arith, r.stays.line, g.line);
+      short = omega (arith, g.short, s, long);
+      small = omega (arith, g.small, s, counted, long);
       held = λ a b. held_on g.whole heads vehicles last lines total slot from k h es ef lh lv n a b (g.held (omega arith) (omega arith));
     }
 
-pub passed_broken : (t : List ℕ) (heads : List Head) (vehicles : List Vehicle) (lines total at : ℕ) (f : Refusal) → Passed t heads vehicles lines total at → at < length t → Refused IsLine line_text (drop at t) 0 (lines + 1) f → Broken t f
-passed_broken t heads vehicles lines total at f g l r = record {
+-- a line is some bytes long
+pub line_past : {c d : Cursor} {h : Head} {last : List Vehicle} → Takes IsLine line_text (λ h. item_of h last) c d (Ok h) → 0 < d.at
+line_past {c} {d} {h} {last} r = omega (arith, line_long (item_of h last), r.answer.long)
+
+pub passed_broken : (t : List ℕ) (c d : Cursor) (heads : List Head) (vehicles last : List Vehicle) (lines total : ℕ) (f : Refusal) → Passed t c heads vehicles lines total → 0 < length c.text.now → Takes IsLine line_text (λ h. item_of h last) c d (Err f) → Broken t f
+passed_broken t c d heads vehicles last lines total f g l r = record {
   whole = g.whole;
   good = g.good;
-  rest = drop at t;
-  k = r.k;
-  here = g.begun.here;
-  some = omega (arith, length-drop at t);
-  breaks = r.breaks;
-  is = at_place (lines + 1) f r.is (omega arith) ∙ ap (λ n. Rattle.fleet_list.specs.Forms.fault (n + 1) (r.k + 1)) (sym g.count);
+  rest = c.text.now;
+  k = r.answer.k;
+  here = g.here;
+  some = l;
+  breaks = subst (λ z. Breaks IsLine line_text z r.answer.k) (ap (λ j. drop j c.text.now) g.start) r.answer.breaks;
+  is = at_place c.line f r.answer.is (omega (arith, g.start)) ∙ ap (λ n. fault n (r.answer.k + 1)) (omega (arith, g.line, g.count));
 }
 
-pub passed_all : (t : List ℕ) (heads : List Head) (vehicles : List Vehicle) (lines total at : ℕ) → Passed t heads vehicles lines total at → length t ≤ at → Listed t heads vehicles lines total
-passed_all t heads vehicles lines total at g l = record {
+empty : (t : List ℕ) → length t ≤ 0 → t ≡ []
+empty [] l = refl
+empty (x ∷ t) l = absurd (omega arith)
+
+pub passed_all : (t : List ℕ) (c : Cursor) (heads : List Head) (vehicles : List Vehicle) (lines total : ℕ) → Passed t c heads vehicles lines total → length c.text.now ≤ 0 → Listed t heads vehicles lines total
+passed_all t c heads vehicles lines total g l = record {
   whole = g.whole;
   good = g.good;
-  is = g.begun.here ∙ ap (λ z. list_text g.whole ++ z) (drop_all at t l) ∙ append-nil (list_text g.whole);
+  is = g.here ∙ ap (λ z. list_text g.whole ++ z) (empty c.text.now l) ∙ append-nil (list_text g.whole);
   count = g.count;
   sum = g.sum;
   held = g.held;

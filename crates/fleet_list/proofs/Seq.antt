@@ -87,7 +87,7 @@ nothing_there G f P t from v gv first l =
           omega arith;
     })
 
-wrong_first : {V : Type 0} (G : V → Type 0) (f : V → List ℕ) (P : ℕ → Type 0) (b : ℕ) (t : List ℕ) (v : V) → G v → First G f P → (P b → ⊥) → Breaks G f (b ∷ t) 0
+pub wrong_first : {V : Type 0} (G : V → Type 0) (f : V → List ℕ) (P : ℕ → Type 0) (b : ℕ) (t : List ℕ) (v : V) → G v → First G f P → (P b → ⊥) → Breaks G f (b ∷ t) 0
 wrong_first G f P b t v gv first np = record {
   within = omega arith;
   before = record { value = v; rest = f v; good = gv; begins = refl };
@@ -189,7 +189,3 @@ same_breaks G f H g t k into back r =
 
 pub refused_same : {V W : Type 0} (G : V → Type 0) (f : V → List ℕ) (H : W → Type 0) (g : W → List ℕ) (t : List ℕ) (from line : ℕ) (x : Refusal) → ((v : V) → G v → (w : W) × H w × (g w ≡ f v)) → ((w : W) → H w → (v : V) × G v × (g w ≡ f v)) → Refused G f t from line x → Refused H g t from line x
 refused_same G f H g t from line x into back r = record { k = r.k; is = r.is; breaks = same_breaks G f H g (drop from t) r.k into back r.breaks }
-
--- the same place, in a larger form
-pub refused_with : {V W : Type 0} (G : V → Type 0) (f : V → List ℕ) (H : W → Type 0) (g : W → List ℕ) (t : List ℕ) (from line : ℕ) (x : Refusal) → ((u : List ℕ) (k : ℕ) → Breaks G f u k → Breaks H g u k) → Refused G f t from line x → Refused H g t from line x
-refused_with G f H g t from line x up r = record { k = r.k; is = r.is; breaks = up (drop from t) r.k r.breaks }

@@ -1,5 +1,5 @@
 -- What export answers, from what becomes of the tables.
-use Rattle.std.proofs.Common.{◌≡◌, ℕ, ◌≤◌, List, [], ◌∷◌, length, take, None, Ok, Err, Result, sym, ap, ◌∙◌, subst, ap₂, arith, length-take-le}
+use Rattle.std.proofs.Common.{◌≡◌, ℕ, List, [], ◌∷◌, length, take, None, Ok, Err, Result, sym, ap, ◌∙◌, subst, ap₂}
 use Rattle.train.specs.declared.entries.Vehicle.{Vehicle}
 use Rattle.train.specs.declared.refusal.Part.TheVariants.{Book}
 use Rattle.train.specs.declared.refusal.Refusal.{Refusal}
@@ -11,7 +11,7 @@ use Rattle.fleet_list.specs.Entries.{Loaded}
 use Rattle.fleet_list.specs.Exports.{export_checks, Exported, Shown}
 use Rattle.fleet_list.specs.Imports.{room_for}
 use Rattle.fleet_list.specs.Lists.{list_text}
-use Rattle.fleet_list.specs.Tables.{gathered, counts}
+use Rattle.fleet_list.specs.Tables.{gathered}
 
 -- behind checks that are met
 pub behind_met : (book : List ℕ) (room : ℕ) → None ≡ refusal Book (book_checks book) → refusal Book (export_checks book room) ≡ refusal Book (room_for (length (list_text (fleet_of book))) room ∷ [])
@@ -22,12 +22,9 @@ exported_by : (book before after : List ℕ) (r : Result (ℕ × ℕ) Refusal) �
 exported_by book before after (Ok r) e b s = (behind_met book (length before) e ∙ s.0, b, s.1)
 exported_by book before after (Err f) e b s = (behind_met book (length before) e ∙ s.0, s.1)
 
-module _ (book : List ℕ) (heads : List Head) (vehicles : List Vehicle) (lines total n m : ℕ) (g : Loaded book heads vehicles lines total) (room : total ≤ length vehicles) (en : n ≡ lines) (em : m ≡ total) where
-  pub tables : gathered (take n heads) (take m vehicles) ≡ fleet_of book
-  tables = ap₂ (λ k j. gathered (take k heads) (take j vehicles)) en em ∙ g.items
+module _ (book : List ℕ) (heads : List Head) (vehicles : List Vehicle) (lines total : ℕ) (g : Loaded book heads vehicles lines total) (hs : List Head) (vs : List Vehicle) (eh : hs ≡ take lines heads) (ev : vs ≡ take total vehicles) where
+  pub tables : gathered hs vs ≡ fleet_of book
+  tables = ap₂ gathered eh ev ∙ g.items
 
-  pub sums : counts (take n heads) ≤ length (take m vehicles)
-  sums = omega (arith, ap (λ k. counts (take k heads)) en, g.sum, ap (λ k. length (take k vehicles)) em, length-take-le total vehicles room)
-
-  pub exported : (before after : List ℕ) (r : Result (ℕ × ℕ) Refusal) → None ≡ refusal Book (book_checks book) → IsBook book (fleet_of book) → Shown (gathered (take n heads) (take m vehicles)) before after r → Exported book before after r
+  pub exported : (before after : List ℕ) (r : Result (ℕ × ℕ) Refusal) → None ≡ refusal Book (book_checks book) → IsBook book (fleet_of book) → Shown (gathered hs vs) before after r → Exported book before after r
   exported before after r e b s = exported_by book before after r e b (subst (λ z. Shown z before after r) tables s)

@@ -1,41 +1,15 @@
--- Lengths of texts, summed up one element after another.
-use Rattle.std.proofs.Common.{◌≡◌, ℕ, ◌+◌, ◌-◌, ◌*◌, ◌/◌, ◌%◌, ◌^◌, ◌<◌, ◌≤◌, List, [], ◌∷◌, ◌++◌, length, get_or, take, drop, decimal, sym, refl, ap, ◌∙◌, zero-add, arith, length-append}
-use Rattle.std.specs.List.{flat_map}
-use Rattle.std.proofs.lemmas.Fmt.{decimal_digit, decimal_step}
-use Rattle.std.proofs.lemmas.List.{drop_all}
+-- Lengths of texts.
+use Rattle.std.proofs.Common.{◌≡◌, ℕ, ◌+◌, ◌*◌, ◌/◌, ◌%◌, ◌^◌, ◌<◌, ◌≤◌, Bool, true, false, cond, eqb, List, [], ◌∷◌, ◌++◌, length, decimal, refl, ap, ◌∙◌, arith, length-append}
+use Rattle.std.specs.List.{flat_map, sum_by}
+use Rattle.std.proofs.lemmas.Fmt.{decimal_digit, decimal_step, decimal_by_steps}
+use Rattle.std.proofs.lemmas.List.Concat.{length-flat_map}
+use Rattle.train.specs.Names.{text_of}
 use Rattle.train.specs.declared.entries.Vehicle.{Vehicle}
 use Rattle.train.specs.declared.facing.Facing.{Facing}
 use Rattle.train.specs.declared.facing.Facing.TheVariants.{NotKnown, Direct, Inverse}
-use Rattle.train.specs.Names.{text_of}
-use Rattle.fleet_list.specs.declared.tables.Head.{Head}
+use Rattle.fleet.specs.Books.{Item}
 use Rattle.fleet_list.specs.Lists.{line_text}
-use Rattle.fleet_list.specs.Tables.{item_of, gathered, row_text}
 use Rattle.fleet_list.specs.Texts.{byte_text, escaped, quoted, sign, vehicle_text}
-use Rattle.fleet_list.proofs.Gathers.{Walk, walk_item, no_head}
-use Rattle.fleet_list.proofs.Loops.{next_fits}
-
--- n is the length of the first i elements' texts
-pub record Summed {V : Type 0} (f : V → List ℕ) (es : List V) (i n : ℕ) : Type 0 where
-  pub left : n + length (flat_map f (drop i es)) ≡ length (flat_map f es)
-
-pub summed_none : {V : Type 0} (f : V → List ℕ) (es : List V) → Summed f es 0 0
-summed_none f es = record { left = zero-add (length (flat_map f es)) }
-
-pub summed_more : {V : Type 0} (f : V → List ℕ) (es : List V) (i n : ℕ) (d : V) (m : ℕ) → Summed f es i n → i < length es → m ≡ length (f (get_or es i d)) → Summed f es (i + 1) (n + m)
-summed_more f es i n d m s l e = record { left = omega (arith, s.left, next_fits f es i d l) }
-
-pub summed_below : {V : Type 0} (f : V → List ℕ) (es : List V) (i n : ℕ) (d : V) → Summed f es i n → i < length es → n + length (f (get_or es i d)) ≤ length (flat_map f es)
-summed_below f es i n d s l = omega (arith, s.left, next_fits f es i d l)
-
-pub summed_all : {V : Type 0} (f : V → List ℕ) (es : List V) (i n : ℕ) → Summed f es i n → length es ≤ i → n ≡ length (flat_map f es)
-summed_all f es i n s l = omega (arith, s.left, ap (λ z. length (flat_map f z)) (drop_all i es l))
-
--- the next element, and the sum with it, where the whole is small
-pub next_small : {V : Type 0} (f : V → List ℕ) (es : List V) (i n : ℕ) (d : V) → Summed f es i n → i < length es → length (flat_map f es) < 2 ^ 64 → length (f (get_or es i d)) < 2 ^ 64
-next_small f es i n d s l h = omega (arith, summed_below f es i n d s l)
-
-pub sum_small : {V : Type 0} (f : V → List ℕ) (es : List V) (i n : ℕ) (d : V) (m : ℕ) → Summed f es i n → i < length es → length (flat_map f es) < 2 ^ 64 → m ≡ length (f (get_or es i d)) → n + m < 2 ^ 64
-sum_small f es i n d m s l h e = omega (arith, summed_below f es i n d s l)
 
 pub twice : (bs : List ℕ) → length (flat_map byte_text bs) ≡ 2 * length bs
 twice [] = refl
@@ -58,15 +32,35 @@ sign_long Inverse = refl
 pub vehicle_long : (v : Vehicle) → length (vehicle_text v) ≡ length (quoted (text_of v.name.bytes)) + 2
 vehicle_long v = omega (arith, length-append (quoted (text_of v.name.bytes)) (sign v.facing), sign_long v.facing)
 
-pub line_sized : (h : Head) (vs : List Vehicle) → length (row_text h vs) ≡ length (flat_map byte_text h.identity.bytes) + length (decimal h.counter) + length (flat_map vehicle_text vs) + 2
-line_sized h vs =
-    let a = flat_map vehicle_text vs in
-    let b = decimal h.counter in
-    omega (arith, length-append (flat_map byte_text h.identity.bytes) (32 ∷ (b ++ (a ++ 10 ∷ []))), length-append b (a ++ 10 ∷ []), length-append a (10 ∷ []))
+pub line_sized : (i : Item) → length (line_text i) ≡ length (flat_map byte_text i.identity.bytes) + length (decimal i.consist.counter) + length (flat_map vehicle_text i.consist.vehicles) + 2
+line_sized i =
+    let a = flat_map vehicle_text i.consist.vehicles in
+    let b = decimal i.consist.counter in
+    omega (arith, length-append (flat_map byte_text i.identity.bytes) (32 ∷ (b ++ (a ++ 10 ∷ []))), length-append b (a ++ 10 ∷ []), length-append a (10 ∷ []))
 
--- the line at i of a walk over the tables
-pub line_here : (hs : List Head) (vs : List Vehicle) (i from : ℕ) → Walk hs vs i from → i < length hs
-    → row_text (get_or hs i no_head) (take (from + (get_or hs i no_head).count - from) (drop from vs)) ≡ line_text (get_or (gathered hs vs) i (item_of no_head []))
-line_here hs vs i from w l =
-    let n : from + (get_or hs i no_head).count - from ≡ (get_or hs i no_head).count = omega arith in
-    ap (λ k. row_text (get_or hs i no_head) (take k (drop from vs))) n ∙ sym (ap line_text (walk_item hs vs i from no_head (item_of no_head []) w l))
+-- bounds that are large enough
+
+abbrev Few : ℕ → List ℕ → Type 0
+Few n ds = length ds ≤ n + 1
+
+few_one : (n : ℕ) → n < 10 → Few n ((48 + n) ∷ [])
+few_one n l = omega arith
+
+few_more : (n : ℕ) (ds : List ℕ) → 10 ≤ n → Few (n / 10) ds → Few n (ds ++ (48 + n % 10) ∷ [])
+few_more n ds l h = omega (arith, length-append ds ((48 + n % 10) ∷ []), h)
+
+pub decimal_few : (n : ℕ) → n < 2 ^ 32 → length (decimal n) ≤ n + 1
+decimal_few n l = decimal_by_steps Few few_one few_more n (omega arith)
+
+escaped_by : (b : ℕ) (x y : Bool) → length (cond x (92 ∷ b ∷ []) (cond y (92 ∷ b ∷ []) (b ∷ []))) ≤ 2
+escaped_by b true y = omega arith
+escaped_by b false true = omega arith
+escaped_by b false false = omega arith
+
+pub escaped_few : (n : List ℕ) → length (flat_map escaped n) ≤ 2 * length n
+escaped_few [] = omega arith
+escaped_few (b ∷ n) = omega (arith, length-append (escaped b) (flat_map escaped n), escaped_by b (eqb b 34) (eqb b 92), escaped_few n)
+
+-- the sum of the lengths
+pub flat_long : {V : Type 0} (f : V → List ℕ) (es : List V) → length (flat_map f es) ≡ sum_by (λ e. length (f e)) es
+flat_long f es = length-flat_map f es

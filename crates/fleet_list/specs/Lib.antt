@@ -1,12 +1,12 @@
 pub mod Machine
 pub mod Forms
 pub mod Texts
-pub mod Steps
 pub mod Counters
 pub mod Parts
-pub mod Rooms
+pub mod Cursors
 pub mod Lists
 pub mod Tables
+pub mod Consists
 pub mod Readings
 pub mod Writes
 pub mod Imports

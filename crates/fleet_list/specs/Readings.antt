@@ -4,6 +4,7 @@ use Rattle.std.specs.List.{AllByRecursion}
 use Rattle.train.specs.declared.entries.Vehicle.{Vehicle}
 use Rattle.train.specs.declared.refusal.Refusal.{Refusal}
 use Rattle.fleet_list.specs.declared.tables.Head.{Head}
+use Rattle.fleet_list.specs.declared.tables.Tables.{Tables}
 use Rattle.fleet.specs.Books.{Item, vehicles_in}
 use Rattle.fleet_list.specs.Forms.{Breaks, fault}
 use Rattle.fleet_list.specs.Lists.{IsLine, line_text, list_text}
@@ -35,6 +36,6 @@ pub record Listed (t : List ℕ) (heads : List Head) (vehicles : List Vehicle) (
   pub sum : length (vehicles_in whole) ≡ total
   pub held : lines ≤ 200 → total ≤ 2000 → Held whole heads vehicles lines total
 
-abbrev pub ListAnswer : List ℕ → List Head → List Vehicle → Result (ℕ × ℕ) Refusal → Type 0
-ListAnswer t heads vehicles (Ok r) = Listed t heads vehicles r.0 r.1
-ListAnswer t heads vehicles (Err f) = Broken t f
+abbrev pub ListAnswer : List ℕ → Tables → Result (Unit {0}) Refusal → Type 0
+ListAnswer t tables (Ok u) = Listed t tables.heads tables.vehicles tables.lines tables.total
+ListAnswer t tables (Err f) = Broken t f

@@ -1,7 +1,7 @@
 // The rows of a book, into tables.
-ghost use Rattle.std.specs.Prelude.{◌≡◌, ◌*◌, ◌<◌, ◌≤◌, map, length, take};
+ghost use Rattle.std.specs.Prelude.{◌≡◌, ℕ, ◌*◌, ◌≤◌, List, map, length};
 ghost use Rattle.fleet.specs.Books.{facing_of, vehicle_of};
-ghost use Rattle.fleet.specs.Rows.{rows};
+ghost use Rattle.fleet.specs.Rows.{rows as rows_of};
 ghost use Rattle.fleet_list.specs.Entries.{head_of, IsLong, Loaded};
 
 use crate::tables::*;
@@ -9,10 +9,6 @@ use train::entries::Vehicle;
 use train::facing::Facing;
 use train::identity::Identity;
 use train::name::Name;
-
-const CONSIST: usize = 21;
-
-const VEHICLE: usize = 17;
 
 fn sixteen(bytes: &[u8]) -> [u8; 16]
     requires { length bytes.now ≡ 16 }
@@ -58,38 +54,67 @@ fn vehicle_of(row: &[u8]) -> Vehicle
     }
 }
 
-fn read_heads(entries: &[u8], count: usize, heads: &mut [Head])
-    requires long { 21 * count ≤ length entries.now }
-    requires room { count ≤ length heads.old }
-    ensures { take count heads.new ≡ map head_of (rows 21 count entries.now) }
-{
-    for i in 0..count {
-        heads[i] = head_of(&entries[i * CONSIST..i * CONSIST + CONSIST]);
+/// What is read from a row of so many bytes.
+trait FromRow: Copy {
+    ghost WIDTH: { ℕ };
+
+    ghost of: { List ℕ → Self };
+
+    const WIDTH: usize;
+
+    fn from_row(row: &[u8]) -> Self
+        requires { length row.now ≡ WIDTH }
+        ensures { result ≡ of row.now };
+}
+
+impl FromRow for Head {
+    ghost WIDTH = { 21 };
+
+    ghost of = { head_of };
+
+    const WIDTH: usize = CONSIST;
+
+    fn from_row(row: &[u8]) -> Head {
+        head_of(row)
     }
 }
 
-fn read_vehicles(table: &[u8], total: usize, vehicles: &mut [Vehicle])
-    requires long { 17 * total ≤ length table.now }
-    requires room { total ≤ length vehicles.old }
-    ensures { take total vehicles.new ≡ map vehicle_of (rows 17 total table.now) }
-{
-    for i in 0..total {
-        vehicles[i] = vehicle_of(&table[i * VEHICLE..i * VEHICLE + VEHICLE]);
+impl FromRow for Vehicle {
+    ghost WIDTH = { 17 };
+
+    ghost of = { vehicle_of };
+
+    const WIDTH: usize = VEHICLE;
+
+    fn from_row(row: &[u8]) -> Vehicle {
+        vehicle_of(row)
     }
 }
 
-// Reads the entries of a book; answers how many consists and vehicles there are.
-pub fn read_book(book: &[u8], heads: &mut [Head], vehicles: &mut [Vehicle]) -> (usize, usize)
-    requires long { IsLong book.now }
-    requires heads { 200 ≤ length heads.old }
-    requires vehicles { 2000 ≤ length vehicles.old }
-    ensures { Loaded book.now heads.new vehicles.new result.0 result.1 }
+// Fills a table from rows that stand one behind another.
+fn read_rows<T: FromRow>(rows: &[u8], table: &mut [T])
+    requires { T.WIDTH * length table.old ≤ length rows.now }
+    ensures { table.new ≡ map T.of (rows_of T.WIDTH (length table.old) rows.now) }
+{
+    let mut rest = rows;
+    for slot in table.iter_mut() {
+        let (row, more) = rest.split_at(T::WIDTH);
+        *slot = T::from_row(row);
+        rest = more;
+    }
+}
+
+// Reads the entries of a book into the tables.
+pub fn read_book(book: &[u8], tables: &mut Tables)
+    requires { IsLong book.now }
+    ensures { Loaded book.now tables.new.heads tables.new.vehicles tables.new.lines tables.new.total }
 {
     let count = book[2] as usize * 256 + book[3] as usize;
     let rest = &book[4..];
     let tail = &rest[count * CONSIST..];
     let total = tail[0] as usize * 256 + tail[1] as usize;
-    read_heads(&rest[0..count * CONSIST], count, heads);
-    read_vehicles(&tail[2..], total, vehicles);
-    (count, total)
+    read_rows(&rest[0..count * CONSIST], &mut tables.heads[0..count]);
+    read_rows(&tail[2..], &mut tables.vehicles[0..total]);
+    tables.lines = count;
+    tables.total = total;
 }

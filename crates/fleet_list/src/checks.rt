@@ -1,14 +1,14 @@
 // The checks over the lines of a list, one loop each.
-ghost use Rattle.std.specs.Prelude.{◌≡◌, ◌≤◌, map, length};
+ghost use Rattle.std.specs.Prelude.{◌≡◌, map};
 ghost use Rattle.train.specs.Refusals.{refusal_of, breach, each, alone};
 ghost use Rattle.train.specs.declared.refusal.Part.TheVariants.{Text};
 ghost use Rattle.train.specs.declared.refusal.Reason.TheVariants.{IdentityOrder, Repeated};
 ghost use Rattle.fleet.specs.Rows.{rises};
 ghost use Rattle.fleet_list.specs.Entries.{head_identity};
 ghost use Rattle.fleet_list.specs.Imports.{rising, names_apart, vehicles_of};
-ghost use Rattle.fleet_list.specs.Tables.{gathered, counts};
+ghost use Rattle.fleet_list.specs.Consists.{items_in};
 
-use crate::faults::refuse;
+use crate::consists::Consists;
 use crate::tables::Head;
 use train::checks::labels_apart;
 use train::entries::Vehicle;
@@ -30,7 +30,7 @@ pub fn identities_rise(heads: &[Head]) -> Result<(), Refusal>
     for (i, head) in heads.iter().enumerate() {
         let id: &[u8] = &head.identity.bytes;
         if !is_rise(prior, id) {
-            return Err(refuse(Reason::IdentityOrder, i + 1));
+            return Err(Refusal::at(Part::Text, Reason::IdentityOrder, i + 1));
         }
         prior = id;
     }
@@ -44,17 +44,13 @@ fn are_apart(vehicles: &[Vehicle]) -> bool
 }
 
 // No name stands twice in a line.
-pub fn names_apart(heads: &[Head], vehicles: &[Vehicle]) -> Result<(), Refusal>
-    requires { counts heads.now ≤ length vehicles.now }
-    ensures { refusal_of result ≡ breach Text (each (alone names_apart) Repeated (map vehicles_of (gathered heads.now vehicles.now))) }
+pub fn names_apart(consists: Consists) -> Result<(), Refusal>
+    ensures { refusal_of result ≡ breach Text (each (alone names_apart) Repeated (map vehicles_of (items_in consists.entry))) }
 {
-    let mut from = 0;
-    for (i, head) in heads.iter().enumerate() {
-        let end = from + head.count as usize;
-        if !are_apart(&vehicles[from..end]) {
-            return Err(refuse(Reason::Repeated, i + 1));
+    for (i, consist) in consists.enumerate() {
+        if !are_apart(consist.vehicles) {
+            return Err(Refusal::at(Part::Text, Reason::Repeated, i + 1));
         }
-        from = end;
     }
     Ok(())
 }

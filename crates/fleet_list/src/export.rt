@@ -1,33 +1,28 @@
 // Exporting a book: the list of its fleet.
-ghost use Rattle.std.specs.Prelude.{◌≡◌, ◌^◌, ◌<◌, ◌≤◌, length};
+ghost use Rattle.std.specs.Prelude.{◌^◌, ◌<◌, length};
 ghost use Rattle.fleet_list.specs.Exports.{Exported, Shown};
 ghost use Rattle.fleet_list.specs.Lists.{list_text};
-ghost use Rattle.fleet_list.specs.Tables.{gathered, counts};
+ghost use Rattle.fleet_list.specs.Consists.{items_in};
 
 use crate::book_reader::read_book;
-use crate::tables::*;
+use crate::consists::Consists;
+use crate::tables::Tables;
 use crate::text_size::list_size;
 use crate::text_writer::put_list;
 use fleet::book::Book;
-use train::entries::Vehicle;
-use train::refusal::{Part, Place, Reason, Refusal};
+use train::refusal::{Part, Reason, Refusal};
 
-// Writes the list of the consists in the tables, where there is room for it.
-fn show(heads: &[Head], vehicles: &[Vehicle], out: &mut [u8]) -> Result<(usize, usize), Refusal>
-    requires sums { counts heads.now ≤ length vehicles.now }
-    requires small { length (list_text (gathered heads.now vehicles.now)) < 2 ^ 64 }
-    ensures { Shown (gathered heads.now vehicles.now) out.old out.new result }
+// Writes the list of these consists, where there is room for it.
+fn show(consists: Consists, out: &mut [u8]) -> Result<(usize, usize), Refusal>
+    requires { length (list_text (items_in consists)) < 2 ^ 64 }
+    ensures { Shown (items_in consists.entry) out.old out.new result }
 {
-    let need = list_size(heads, vehicles);
+    let need = list_size(consists);
     if out.len() < need {
-        return Err(Refusal {
-            part: Part::Book,
-            reason: Reason::BufferShort,
-            place: Place::At(need),
-        });
+        return Err(Refusal::at(Part::Book, Reason::BufferShort, need));
     }
-    let bytes = put_list(out, heads, vehicles);
-    Ok((bytes, heads.len()))
+    let bytes = put_list(out, consists);
+    Ok((bytes, consists.heads.len()))
 }
 
 /// Writes the list of the fleet that a book holds at the front of `out`, and answers how many bytes
@@ -37,8 +32,7 @@ pub fn export_book(book: &[u8], out: &mut [u8]) -> Result<(usize, usize), Refusa
 {
     let mut opened = Book::new();
     opened.open(book)?;
-    let mut heads = [NO_HEAD; HEADS];
-    let mut vehicles = [NO_VEHICLE; ROOM];
-    let (lines, total) = read_book(book, &mut heads, &mut vehicles);
-    show(&heads[0..lines], &vehicles[0..total], out)
+    let mut tables = Tables::new();
+    read_book(book, &mut tables);
+    show(tables.consists(), out)
 }

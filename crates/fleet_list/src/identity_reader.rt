@@ -1,13 +1,12 @@
 // The reader of an identity.
-ghost use Rattle.std.specs.Prelude.{◌≤◌, length};
-ghost use Rattle.fleet_list.specs.Forms.{Answer};
+ghost use Rattle.std.specs.Prelude.{length};
+ghost use Rattle.fleet_list.specs.Cursors.{Takes};
 ghost use Rattle.fleet_list.specs.Texts.{byte_text};
-ghost use Rattle.fleet_list.specs.Parts.{same, Nibble, digit_text, Digit, Byte, Bytes, bytes_text};
+ghost use Rattle.fleet_list.specs.Parts.{same, Nibble, digit_text, Digit, Byte, Bytes, bytes_text, bytes_of};
 
-use crate::faults::broken;
+use crate::cursor::Cursor;
+use train::identity::Identity;
 use train::refusal::Refusal;
-
-const SIZE: usize = 16;
 
 fn nibble(b: u8) -> Option<u8>
     ensures { Digit b result }
@@ -19,49 +18,29 @@ fn nibble(b: u8) -> Option<u8>
     }
 }
 
-// The hex digit at `from`.
-fn read_digit(text: &[u8], from: usize, line: usize) -> Result<(u8, usize), Refusal>
-    requires { from ≤ length text.now }
-    ensures { Answer Nibble digit_text same text.now from line result }
+fn read_digit(cursor: &mut Cursor) -> Result<u8, Refusal>
+    ensures { Takes Nibble digit_text same cursor.old cursor.new result }
 {
-    if from >= text.len() {
-        return Err(broken(line, from));
-    }
-    match nibble(text[from]) {
-        Some(n) => Ok((n, from + 1)),
-        None => Err(broken(line, from)),
-    }
+    cursor.take(nibble)
 }
 
 // The two hex digits of a byte.
-fn read_byte(text: &[u8], from: usize, line: usize) -> Result<(u8, usize), Refusal>
-    requires { from ≤ length text.now }
-    ensures { Answer Byte byte_text same text.now from line result }
+fn read_byte(cursor: &mut Cursor) -> Result<u8, Refusal>
+    ensures { Takes Byte byte_text same cursor.old cursor.new result }
 {
-    let (high, at) = read_digit(text, from, line)?;
-    let (low, end) = read_digit(text, at, line)?;
-    Ok((high * 16 + low, end))
+    let high = read_digit(cursor)?;
+    let low = read_digit(cursor)?;
+    Ok(high * 16 + low)
 }
 
 // Thirty-two hex digits and a space.
-pub fn read_identity(text: &[u8], from: usize, line: usize) -> Result<([u8; 16], usize), Refusal>
-    requires { from ≤ length text.now }
-    ensures { Answer (Bytes 16) bytes_text same text.now from line result }
+pub fn read_identity(cursor: &mut Cursor) -> Result<Identity, Refusal>
+    ensures { Takes (Bytes 16) bytes_text bytes_of cursor.old cursor.new result }
 {
     let mut bytes = [0; 16];
-    let mut at = from;
-    let mut n = 0;
-    while n < SIZE {
-        let (b, past) = read_byte(text, at, line)?;
-        bytes[n] = b;
-        at = past;
-        n += 1;
+    for slot in bytes.iter_mut() {
+        *slot = read_byte(cursor)?;
     }
-    if at >= text.len() {
-        return Err(broken(line, at));
-    }
-    if text[at] != b' ' {
-        return Err(broken(line, at));
-    }
-    Ok((bytes, at + 1))
+    cursor.expect(b' ')?;
+    Ok(Identity { bytes })
 }

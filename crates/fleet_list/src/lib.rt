@@ -4,9 +4,11 @@
 mod book_reader;
 mod book_writer;
 mod checks;
+mod consists;
 mod counter_reader;
+mod cursor;
 pub mod export;
-mod faults;
+mod forms;
 mod identity_reader;
 pub mod import;
 mod line_reader;

@@ -1,4 +1,8 @@
 // Consists in tables: a head for each, and the vehicles of all of them one behind another.
+ghost use Rattle.std.specs.Prelude.{◌≡◌, ◌≤◌, take};
+ghost use Rattle.fleet_list.specs.Tables.{counts};
+
+use crate::consists::Consists;
 use train::entries::Vehicle;
 use train::facing::Facing;
 use train::identity::Identity;
@@ -40,3 +44,40 @@ pub const NO_VEHICLE: Vehicle = Vehicle {
     name: Name { bytes: [0; 16] },
     facing: Facing::NotKnown,
 };
+
+/// How many consists and vehicles were read, and the tables that hold them where there is room for all.
+#[derive(Drop)]
+pub struct Tables {
+    pub heads: [Head; HEADS],
+    pub lines: usize,
+    pub vehicles: [Vehicle; ROOM],
+    pub total: usize,
+}
+
+impl Tables {
+    pub fn new() -> Tables
+        ensures lines { result.lines ≡ 0 }
+        ensures total { result.total ≡ 0 }
+    {
+        Tables {
+            heads: [NO_HEAD; HEADS],
+            lines: 0,
+            vehicles: [NO_VEHICLE; ROOM],
+            total: 0,
+        }
+    }
+
+    /// The consists, which are not too many.
+    pub fn consists(&self) -> Consists<'_>
+        requires few { self.now.lines ≤ 200 }
+        requires small { self.now.total ≤ 2000 }
+        requires sums { counts (take self.now.lines self.now.heads) ≡ self.now.total }
+        ensures heads { result.heads.now ≡ take self.now.lines self.now.heads }
+        ensures vehicles { result.vehicles.now ≡ take self.now.total self.now.vehicles }
+    {
+        Consists {
+            heads: &self.heads[0..self.lines],
+            vehicles: &self.vehicles[0..self.total],
+        }
+    }
+}

@@ -14,39 +14,27 @@ use Rattle.fleet_list.proofs.book_writer.put_book.Goals as goal
 sized : (hs : List Head) (vs : List Vehicle) (room : ℕ) → counts hs ≡ length vs → length (book_of (gathered hs vs)) ≤ room → 6 + length (flat_map head_row hs) + length (flat_map vehicle_row vs) ≤ room
 sized hs vs room e l = omega (arith, ap length (book_parts hs vs e), parts_long hs vs)
 
-pub put_version-at-requires : goal.put_version-at-requires
-put_version-at-requires c = let l = sized c.args.heads.now c.args.vehicles.now _ c.requires.sums c.requires.room in omega arith
+pub put_each-at-requires : goal.put_each-at-requires
+put_each-at-requires c =
+    let l = sized c.args.consists.heads.now c.args.consists.vehicles.now _ c.args.consists.sums c.requires.room in
+    let a = lend c.put_bytes-at.ensures c.put_count-at.ensures refl in
+    tail_room _ (c.put_bytes-at.result + c.put_count-at.result) _ (omega (arith, c.put_bytes-at.ensures.long, c.put_count-at.ensures.long, same_length a))
 
-pub put_count-at-requires : goal.put_count-at-requires
-put_count-at-requires c =
-    let l = sized c.args.heads.now c.args.vehicles.now _ c.requires.sums c.requires.room in
-    let a = c.put_version-at.ensures in
-    record { room = tail_room _ c.put_version-at.result _ (omega (arith, a.long, same_length a)); small = c.requires.small.0 }
+pub put_count-at-requires-2-clause-room : goal.put_count-at-requires-2-clause-room
+put_count-at-requires-2-clause-room c =
+    let l = sized c.args.consists.heads.now c.args.consists.vehicles.now _ c.args.consists.sums c.requires.room in
+    let a = lend (lend c.put_bytes-at.ensures c.put_count-at.ensures refl) c.put_each-at.ensures refl in
+    tail_room _ (c.put_bytes-at.result + c.put_count-at.result + c.put_each-at.result) _
+    (omega (arith, c.put_bytes-at.ensures.long, c.put_count-at.ensures.long, c.put_each-at.ensures.long, same_length a))
 
-pub put_heads-at-requires : goal.put_heads-at-requires
-put_heads-at-requires c =
-    let l = sized c.args.heads.now c.args.vehicles.now _ c.requires.sums c.requires.room in
-    let a = lend c.put_version-at.ensures c.put_count-at.ensures refl in
-    tail_room _ (c.put_version-at.result + c.put_count-at.result) _ (omega (arith, c.put_version-at.ensures.long, c.put_count-at.ensures.long, same_length a))
-
-pub put_count-at-requires-2 : goal.put_count-at-requires-2
-put_count-at-requires-2 c =
-    let l = sized c.args.heads.now c.args.vehicles.now _ c.requires.sums c.requires.room in
-    let a = lend (lend c.put_version-at.ensures c.put_count-at.ensures refl) c.put_heads-at.ensures refl in
-    record {
-      room = tail_room _ (c.put_version-at.result + c.put_count-at.result + c.put_heads-at.result) _
-          (omega (arith, c.put_version-at.ensures.long, c.put_count-at.ensures.long, c.put_heads-at.ensures.long, same_length a));
-      small = c.requires.small.1;
-    }
-
-pub put_vehicles-at-requires : goal.put_vehicles-at-requires
-put_vehicles-at-requires c =
-    let l = sized c.args.heads.now c.args.vehicles.now _ c.requires.sums c.requires.room in
-    let a = lend (lend (lend c.put_version-at.ensures c.put_count-at.ensures refl) c.put_heads-at.ensures refl) c.put_count-at-2.ensures refl in
-    tail_room _ (c.put_version-at.result + c.put_count-at.result + c.put_heads-at.result + c.put_count-at-2.result) _
-    (omega (arith, c.put_version-at.ensures.long, c.put_count-at.ensures.long, c.put_heads-at.ensures.long, c.put_count-at-2.ensures.long, same_length a))
+pub put_each-at-requires-2 : goal.put_each-at-requires-2
+put_each-at-requires-2 c =
+    let l = sized c.args.consists.heads.now c.args.consists.vehicles.now _ c.args.consists.sums c.requires.room in
+    let a = lend (lend (lend c.put_bytes-at.ensures c.put_count-at.ensures refl) c.put_each-at.ensures refl) c.put_count-at-2.ensures refl in
+    tail_room _ (c.put_bytes-at.result + c.put_count-at.result + c.put_each-at.result + c.put_count-at-2.result) _
+    (omega (arith, c.put_bytes-at.ensures.long, c.put_count-at.ensures.long, c.put_each-at.ensures.long, c.put_count-at-2.ensures.long, same_length a))
 
 pub returns : goal.returns
 returns c =
-    same_text (sym (book_parts c.args.heads.now c.args.vehicles.now c.requires.sums))
-    (lend (lend (lend (lend c.put_version-at.ensures c.put_count-at.ensures refl) c.put_heads-at.ensures refl) c.put_count-at-2.ensures refl) c.put_vehicles-at.ensures refl)
+    same_text (sym (book_parts c.args.consists.heads.now c.args.consists.vehicles.now c.args.consists.sums))
+    (lend (lend (lend (lend c.put_bytes-at.ensures c.put_count-at.ensures refl) c.put_each-at.ensures refl) c.put_count-at-2.ensures refl) c.put_each-at-2.ensures refl)

@@ -1,10 +1,9 @@
-use Rattle.std.proofs.Common.{◌≡◌, ◌-◌, ◌≤◌, length, drop}
-use Rattle.fleet_list.proofs.Stops.{run}
-use Rattle.fleet_list.specs.Counters.{digit}
+use Rattle.std.proofs.Common.{◌-◌, length}
+use Rattle.fleet_list.proofs.Counting.{Counting}
 use Rattle.fleet_list.proofs.counter_reader.read_counter.Given as goal
 
-abbrev pub invariant-loop-at : goal.invariant-loop-at
-invariant-loop-at l = (l.at ≤ length l.text) × (run digit 0 l.from (drop l.from l.text) ≡ run digit l.value l.at (drop l.at l.text))
+abbrev pub invariant-loop-value : goal.invariant-loop-value
+invariant-loop-value l = Counting l.initial.cursor l.cursor l.value
 
-abbrev pub decreases-loop-at : goal.decreases-loop-at
-decreases-loop-at l = length l.text - l.at
+abbrev pub decreases-loop-value : goal.decreases-loop-value
+decreases-loop-value l = length l.initial.cursor.text.now - l.cursor.at

@@ -1,12 +1,12 @@
-use Rattle.std.proofs.Common.{◌-◌, ◌≤◌, [], ◌∷◌, length, sym, refl, ap, subst, arith}
+use Rattle.std.proofs.Common.{[], ◌∷◌, length, sym, refl, ap, subst, arith}
 use Rattle.std.proofs.lemmas.Result.{err_from_is_err_and}
 use Rattle.train.specs.declared.refusal.Part.TheVariants.{Book}
 use Rattle.fleet.specs.Books.{book_checks, fleet_of, IsBook}
 use Rattle.fleet.specs.Heads.{first_refused}
 use Rattle.fleet_list.specs.Imports.{room_for}
 use Rattle.fleet_list.specs.Lists.{list_text}
-use Rattle.fleet_list.proofs.Long.{is_long, list_small}
-use Rattle.fleet_list.proofs.Shows.{tables, sums, exported}
+use Rattle.fleet_list.proofs.Long.{list_small}
+use Rattle.fleet_list.proofs.Shows.{tables, exported}
 use Rattle.fleet_list.proofs.export.export_book.Goals as goal
 use Rattle.fleet_list.proofs.export.export_book.Goals.{In_ok-open}
 
@@ -20,25 +20,14 @@ returns-in_err-open c =
 the_book : (c : In_ok-open) → IsBook c.args.book.now (fleet_of c.args.book.now)
 the_book c = subst (λ z. IsBook c.args.book.now (fleet_of z)) c.in_ok-open.ensures.after c.in_ok-open.ensures.exactly.book
 
-pub read_book-lines-requires : goal.read_book-lines-requires
-read_book-lines-requires c =
-    record { long = is_long c.args.book.now (sym c.in_ok-open.ensures.answer); heads = omega arith; vehicles = omega arith }
-
 pub show-requires : goal.show-requires
 show-requires c =
-    let room : c.read_book-lines.result.1 ≤ length c.read_book-lines.new.vehicles = omega (arith, c.read_book-lines.ensures.small, c.read_book-lines.auto.vehicles) in
-    let e = tables c.args.book.now c.read_book-lines.new.heads c.read_book-lines.new.vehicles c.read_book-lines.result.0 c.read_book-lines.result.1 (c.read_book-lines.result.0 - 0)
-    (c.read_book-lines.result.1 - 0) c.read_book-lines.ensures room (omega arith) (omega arith) in
-    let small = list_small (fleet_of c.args.book.now) (the_book (goal.at.show-requires c).In_ok-open).fleet in
-    record {
-      sums = sums c.args.book.now c.read_book-lines.new.heads c.read_book-lines.new.vehicles c.read_book-lines.result.0 c.read_book-lines.result.1 (c.read_book-lines.result.0 - 0)
-          (c.read_book-lines.result.1 - 0) c.read_book-lines.ensures room (omega arith) (omega arith);
-      small = omega (arith, small, ap (λ z. length (list_text z)) e);
-    }
+    let t = c.read_book.new.tables in
+    let e = tables c.args.book.now t.heads t.vehicles t.lines t.total c.read_book.ensures _ _ c.consists.ensures.heads c.consists.ensures.vehicles in
+    omega (arith, list_small (fleet_of c.args.book.now) (the_book (goal.at.show-requires c).In_ok-open).fleet, ap (λ z. length (list_text z)) e)
 
 pub returns : goal.returns
 returns c =
-    let room : c.read_book-lines.result.1 ≤ length c.read_book-lines.new.vehicles = omega (arith, c.read_book-lines.ensures.small, c.read_book-lines.auto.vehicles) in
-    exported c.args.book.now c.read_book-lines.new.heads c.read_book-lines.new.vehicles c.read_book-lines.result.0 c.read_book-lines.result.1 (c.read_book-lines.result.0 - 0)
-    (c.read_book-lines.result.1 - 0) c.read_book-lines.ensures room (omega arith) (omega arith) c.args.out.now c.show.new.out c.show.result c.in_ok-open.ensures.answer
-    (the_book (goal.at.returns c).In_ok-open) c.show.ensures
+    let t = c.read_book.new.tables in
+    exported c.args.book.now t.heads t.vehicles t.lines t.total c.read_book.ensures _ _ c.consists.ensures.heads c.consists.ensures.vehicles c.args.out.now c.show.new.out c.show.result
+    c.in_ok-open.ensures.answer (the_book (goal.at.returns c).In_ok-open) c.show.ensures

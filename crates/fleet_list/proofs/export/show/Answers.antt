@@ -8,6 +8,6 @@ use Rattle.fleet_list.proofs.export.show.Goals as goal
 
 pub returns : goal.returns
 returns c = (
-  enough Book (length (list_text (gathered c.args.heads.now c.args.vehicles.now))) (length c.args.out.now) (omega (arith, c.list_size-need.ensures, c.if-out-need.false)),
-  record { wrote = c.put_list-bytes.ensures; lines = sym (length-gathered c.args.heads.now c.args.vehicles.now) },
+  enough Book (length (list_text (gathered c.args.consists.heads.now c.args.consists.vehicles.now))) (length c.args.out.now) (omega (arith, c.list_size-need.ensures, c.if-out-need.false)),
+  record { wrote = c.put_list-bytes.ensures; lines = sym (length-gathered c.args.consists.heads.now c.args.consists.vehicles.now) },
 )

@@ -1,29 +1,22 @@
-use Rattle.std.proofs.Common.{◌≡◌, suc, ◌+◌, ◌-◌, [], refl, arith}
-use Rattle.std.proofs.lemmas.Result.{err_from_is_err_and}
-use Rattle.fleet_list.specs.Parts.{Byte, Bytes, bytes_text}
+use Rattle.std.proofs.Common.{◌≡◌, ◌+◌, ◌-◌, [], length, take, arith, length-take-le}
+use Rattle.fleet_list.specs.Parts.{Byte, bytes_of}
 use Rattle.fleet_list.specs.Texts.{byte_text}
-use Rattle.fleet_list.proofs.Hex.{in_byte, going_more, going_refused, going_done, first_end}
-use Rattle.fleet_list.proofs.Seq.{nothing_there, wrong_there, refused_here, refused_with, begun_byte}
+use Rattle.fleet_list.proofs.Cursors.{passed_on}
+use Rattle.fleet_list.proofs.Hex.{front_byte, apart_byte, zeros, zeros_long, zeros_good}
+use Rattle.fleet_list.proofs.Runs.{item_stuck, end_stuck}
+use Rattle.fleet_list.proofs.Series.{first_end}
 use Rattle.fleet_list.proofs.identity_reader.read_identity.Goals as goal
 
-pub returns-in_err-b : goal.returns-in_err-b
-returns-in_err-b c =
-    let p = err_from_is_err_and c.from_residual.result c.from_residual.ensures.1 in
-    rw (p.1, p.2) (going_refused c.args.text.now c.args.from c.args.line c.loop-n.bytes c.loop-n.n c.loop-n.at (suc (15 - c.loop-n.n)) _ c.loop-n.invariant (omega arith)
-    (refused_with Byte byte_text (Bytes (suc (15 - c.loop-n.n))) bytes_text c.args.text.now c.loop-n.at c.args.line _ (in_byte (15 - c.loop-n.n)) c.in_err-b.ensures))
+pub returns-in_err-slot : goal.returns-in_err-slot
+returns-in_err-slot c =
+    let i = c.loop-slot.slot-index in
+    let l : length (take i c.loop-slot.slot-items) ≡ i = length-take-le i c.loop-slot.slot-items (omega arith) in
+    passed_on c.from_residual.ensures.1
+    (item_stuck Byte byte_text 32 front_byte apart_byte (λ n. n ≡ 16) bytes_of (zeros (15 - i)) (omega (arith, zeros_long (15 - i))) (zeros_good (15 - i)) (λ h _ _. omega arith) c.loop-slot.invariant c.in_err-slot.ensures)
 
-pub loop-n-preserved : goal.loop-n-preserved
-loop-n-preserved c = going_more c.args.text.now c.args.from c.loop-n.bytes c.loop-n.n c.loop-n.at c.in_ok-b.b c.in_ok-b.past c.loop-n.invariant c.loop-n-test.true c.in_ok-b.ensures
-
-pub returns-then-at-text : goal.returns-then-at-text
-returns-then-at-text c =
-    going_refused c.args.text.now c.args.from c.args.line c.loop-n.bytes c.loop-n.n c.loop-n.at 0 c.broken.result c.loop-n.invariant (omega (arith, c.loop-n.invariant.few))
-    (refused_here (Bytes 0) bytes_text c.args.text.now c.loop-n.at c.args.line c.broken.result c.broken.ensures (nothing_there (Bytes 0) bytes_text (λ b. b ≡ 32) c.args.text.now c.loop-n.at [] (refl, tt) first_end c.if-at-text.true))
-
-pub returns-then-text-at-ne32 : goal.returns-then-text-at-ne32
-returns-then-text-at-ne32 c =
-    going_refused c.args.text.now c.args.from c.args.line c.loop-n.bytes c.loop-n.n c.loop-n.at 0 c.broken-then-text-at-ne32.result c.loop-n.invariant (omega (arith, c.loop-n.invariant.few))
-    (refused_here (Bytes 0) bytes_text c.args.text.now c.loop-n.at c.args.line c.broken-then-text-at-ne32.result c.broken-then-text-at-ne32.ensures (wrong_there (Bytes 0) bytes_text (λ b. b ≡ 32) c.args.text.now c.loop-n.at [] (refl, tt) first_end c.if-at-text.false c.if-text-at-ne32.true))
-
-pub returns : goal.returns
-returns c = going_done c.args.text.now c.args.from c.loop-n.bytes c.loop-n.n c.loop-n.at (c.loop-n.at + 1) c.loop-n.invariant c.loop-n-test.false (begun_byte c.args.text.now c.loop-n.at 32 c.if-at-text.false c.if-text-at-ne32.false)
+pub returns-in_err-expect : goal.returns-in_err-expect
+returns-in_err-expect c =
+    let i = c.loop-slot.slot-index in
+    let l : length (take i c.loop-slot.slot-items) ≡ i = length-take-le i c.loop-slot.slot-items (omega arith) in
+    passed_on c.from_residual-in_err-expect.ensures.1
+    (end_stuck Byte byte_text 32 front_byte apart_byte (λ n. n ≡ 16) bytes_of (λ b. b ≡ 32) [] (omega arith, tt) (first_end Byte byte_text 32 (λ n. length (take i c.loop-slot.slot-items) + n ≡ 16) (λ n h. omega arith)) (λ l n e. n e) c.loop-slot.invariant c.in_err-expect.ensures)

@@ -1,25 +1,17 @@
-use Rattle.std.proofs.Common.{◌-◌, ◌≤◌, length, sym, subst, arith, length-take}
+use Rattle.std.proofs.Common.{sym, subst}
 use Rattle.std.specs.List.{AllByRecursion}
 use Rattle.fleet_list.specs.Lists.{IsLine}
-use Rattle.fleet_list.proofs.Ready.{sums, items, imported}
+use Rattle.fleet_list.proofs.Ready.{items, imported}
 use Rattle.fleet_list.proofs.import.read_and_store.Goals as goal
 
-pub store-requires : goal.store-requires
-store-requires c =
-    let g = c.in_ok-lines.ensures in
-    let few = c.if-lines-gt-LINES.false in
-    let small = c.if-total-gt-VEHICLES.false in
-    let room : c.in_ok-lines.total ≤ length c.read_list.new.vehicles = omega (arith, c.read_list.auto.vehicles) in
-    let e = items c.args.text.now c.read_list.new.heads c.read_list.new.vehicles c.in_ok-lines.lines c.in_ok-lines.total (c.in_ok-lines.lines - 0) (c.in_ok-lines.total - 0) g few small room (omega arith) (omega arith) in
-    record {
-      sums = sums c.args.text.now c.read_list.new.heads c.read_list.new.vehicles c.in_ok-lines.lines c.in_ok-lines.total (c.in_ok-lines.lines - 0) (c.in_ok-lines.total - 0) g few small room (omega arith) (omega arith);
-      lines = subst (AllByRecursion IsLine) (sym e) g.good;
-      few = omega (arith, length-take (c.in_ok-lines.lines - 0) c.read_list.new.heads);
-      small = omega (arith, length-take (c.in_ok-lines.total - 0) c.read_list.new.vehicles);
-    }
+pub store-requires-clause-lines : goal.store-requires-clause-lines
+store-requires-clause-lines c =
+    let t = c.read_list.new.tables in
+    let g = c.in_ok-read_list.ensures in
+    subst (AllByRecursion IsLine) (sym (items c.args.text.now t.heads t.vehicles t.lines t.total g c.if-tables-gt-LINES.false c.if-tables-gt-VEHICLES.false _ _ c.consists.ensures.heads c.consists.ensures.vehicles)) g.good
 
 pub returns : goal.returns
 returns c =
-    imported c.args.text.now c.args.out.now c.store.new.out c.read_list.new.heads c.read_list.new.vehicles c.in_ok-lines.lines c.in_ok-lines.total
-    (c.in_ok-lines.lines - 0) (c.in_ok-lines.total - 0) c.store.result c.in_ok-lines.ensures c.if-lines-gt-LINES.false c.if-total-gt-VEHICLES.false
-    (omega (arith, c.read_list.auto.vehicles)) (omega arith) (omega arith) c.store.ensures
+    let t = c.read_list.new.tables in
+    imported c.args.text.now c.args.out.now c.store.new.out t.heads t.vehicles t.lines t.total c.store.result _ _ c.in_ok-read_list.ensures c.if-tables-gt-LINES.false c.if-tables-gt-VEHICLES.false
+    c.consists.ensures.heads c.consists.ensures.vehicles c.store.ensures

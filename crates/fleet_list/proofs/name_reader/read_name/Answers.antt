@@ -1,46 +1,42 @@
-use Rattle.std.proofs.Common.{◌≡◌, ℕ, ◌+◌, List, [], drop, refl, arith}
-use Rattle.std.proofs.lemmas.Result.{err_from_is_err_and}
-use Rattle.train.specs.declared.refusal.Refusal.{Refusal}
-use Rattle.train.specs.Names.{IsName}
-use Rattle.fleet_list.specs.Steps.{name_of}
-use Rattle.fleet_list.specs.Texts.{quoted}
-use Rattle.fleet_list.specs.Forms.{Refused, fault}
-use Rattle.fleet_list.specs.Parts.{name_text}
-use Rattle.fleet_list.specs.declared.name_reader.NameState.TheVariants.{Before}
-use Rattle.fleet_list.proofs.Turns.{bad, run, room_16, Turned, turn, at_err, at_end, at_next, at_short}
-use Rattle.fleet_list.proofs.Link.{accepted_printed, refused_breaks}
-use Rattle.fleet_list.proofs.Pads.{name_refused, name_read}
-use Rattle.fleet_list.proofs.Seq.{reads, at_place}
+use Rattle.std.proofs.Common.{◌≡◌, ◌+◌, [], ◌∷◌, length, take, set, Ok, Err, refl, arith, length-take-le}
+use Rattle.train.specs.Names.{IsName, padded}
+use Rattle.fleet_list.specs.Parts.{name_text, name_bytes, same, Letter}
+use Rattle.fleet_list.specs.Texts.{escaped}
+use Rattle.fleet_list.proofs.Cursors.{passed_on, byte_missing, taken_as, stuck_as, not_at}
+use Rattle.fleet_list.proofs.Letters.{Sized, front_letter, apart_letter}
+use Rattle.fleet_list.proofs.Pads.{named, first_quote}
+use Rattle.fleet_list.proofs.Runs.{item_stuck}
+use Rattle.fleet_list.proofs.Spelled.{spelled_more, Spelt, quoted_name, spelt_done, spelt_stuck, spelt_bytes}
 use Rattle.fleet_list.proofs.name_reader.read_name.Goals as goal
-use Rattle.fleet_list.proofs.name_reader.read_name.Goals.{After-step}
+use Rattle.fleet_list.proofs.name_reader.read_name.Goals.{After-expect-2, else-loop-slot-test, then-loop-slot-test+in_ok-slot+then-is_at}
 
--- what the step's contract says of the run, said once for the three ways on
-stepped : (c : After-step) → Turned c.args.text.now (run Before [] c.args.from (drop c.args.from c.args.text.now)) c.loop-at.at c.args.line c.step.new.self c.step.result
-stepped c = turn c.args.text.now _ c.loop-at.at c.args.line c.loop-at.reader c.step.new.self c.step.result c.loop-at.invariant c.loop-at-test.true c.step.ensures.after
+pub returns-in_err-expect : goal.returns-in_err-expect
+returns-in_err-expect c =
+    passed_on c.from_residual.ensures.1 (byte_missing IsName name_text name_bytes 34 (padded (65 ∷ [])) (named (65 ∷ []) ((omega arith, omega arith), ((omega arith, omega arith), tt))) first_quote c.in_err-expect.ensures)
 
-refused : (t : List ℕ) (from at line : ℕ) (f : Refusal) → run Before [] from (drop from t) ≡ bad at → f ≡ fault line (at + 1) → Refused IsName name_text t from line f
-refused t from at line f e h = let r = refused_breaks from (drop from t) at e in name_refused t from line f (record { k = r.0; is = at_place line f h (omega (arith, r.1)); breaks = r.2 })
+pub returns-in_err-slot : goal.returns-in_err-slot
+returns-in_err-slot c =
+    let i = c.loop-slot.slot-index in
+    let v = c.loop-slot.invariant in
+    let n : length (take i c.loop-slot.letters) ≡ i = length-take-le i c.loop-slot.letters (omega (arith, v.spelled.long)) in
+    passed_on c.from_residual-in_err-slot.ensures.1
+    (stuck_as IsName name_text name_bytes (quoted_name (Err _) c.in_ok-expect.ensures
+    (item_stuck Letter escaped 34 front_letter apart_letter Sized same [] (omega arith, omega arith) tt (λ h l e. v.onward (omega (arith, h.0)) (record { more = l; byte = e })) v.spelled.along c.in_err-slot.ensures)))
 
-pub loop-at-init : goal.loop-at-init
-loop-at-init c = record { within = c.requires; stands = refl; filled = (refl, refl); same = refl }
+pub loop-slot-preserved : goal.loop-slot-preserved
+loop-slot-preserved c = record { spelled = spelled_more c.loop-slot.invariant.spelled (omega arith) c.in_ok-slot.ensures; onward = λ _ h. not_at c.is_at.ensures c.if-is_at.false h.more h.byte }
 
-pub returns-in_err-step : goal.returns-in_err-step
-returns-in_err-step c =
-    let p = err_from_is_err_and c.from_residual.result c.from_residual.ensures.1 in
-    let h = at_err c.args.text.now _ c.loop-at.at c.args.line c.step.new.self c.step.result _ (stepped (goal.at.returns-in_err-step c).After-step) c.in_err-step.was in
-    rw (p.1, p.2) (refused c.args.text.now c.args.from c.loop-at.at c.args.line _ h.0 h.1)
+spelt : (c : After-expect-2) → Spelt c.expect.new.self c.loop-slot-test.cursor c.loop-slot-test.bytes
+spelt c = elim c.loop-slot-test.branch [
+  | else-loop-slot-test w ↦ rw (w.cursor-is, w.bytes-is) (record { places = c.loop-slot.letters; count = c.loop-slot.slot-index; spelled = c.loop-slot.invariant.spelled; some = omega arith; whole = refl; ends = λ l. absurd (omega arith) })
+  | then-loop-slot-test+in_ok-slot+then-is_at w ↦ rw (w.cursor-is, w.bytes-is) (record { places = set c.loop-slot.letters c.loop-slot.slot-index w.in_ok-slot.field-0; count = c.loop-slot.slot-index + 1; spelled = spelled_more c.loop-slot.invariant.spelled (omega arith) w.in_ok-slot.ensures; some = omega arith; whole = refl; ends = λ l. w.is_at.ensures.0 w.if-is_at.true })
+]
 
-pub returns-in-Ended : goal.returns-in-Ended
-returns-in-Ended c =
-    let e = at_end c.args.text.now _ c.loop-at.at c.args.line c.step.new.self c.step.result _ (stepped (goal.at.returns-in-Ended c).After-step) c.in_ok-step.was c.in-Ended.is in
-    let a = accepted_printed c.args.from (drop c.args.from c.args.text.now) _ _ _ e.0 in
-    name_read c.args.text.now c.args.from c.step.new.self (c.loop-at.at + 1) (omega (arith, room_16 c.step.new.self.state c.step.new.self.len c.step.ensures.stands)) e.1 (reads _ quoted c.args.text.now c.args.from (name_of c.step.new.self) (c.loop-at.at + 1) c.requires (omega arith) a.0 a.1)
-
-pub loop-at-preserved : goal.loop-at-preserved
-loop-at-preserved c =
-    at_next c.args.text.now _ c.loop-at.at c.args.line c.step.new.self c.step.result _ (stepped (goal.at.loop-at-preserved c).After-step) c.in_ok-step.was c.in_default.not-Ended c.step.ensures.stands c.loop-at-test.true
+pub returns-in_err-expect-2 : goal.returns-in_err-expect-2
+returns-in_err-expect-2 c =
+    passed_on c.from_residual-in_err-expect-2.ensures.1 (stuck_as IsName name_text name_bytes (quoted_name (Err _) c.in_ok-expect.ensures (spelt_stuck (spelt (goal.at.returns-in_err-expect-2 c).After-expect-2) c.in_err-expect-2.ensures)))
 
 pub returns : goal.returns
 returns c =
-    let h = at_short _ _ _ _ c.loop-at.invariant c.loop-at-test.false in
-    refused c.args.text.now c.args.from c.loop-at.at c.args.line c.broken.result h c.broken.ensures
+    let s = spelt (goal.at.returns c).After-expect-2 in
+    taken_as IsName name_text name_bytes (record { bytes = c.loop-slot-test.bytes }) (spelt_bytes s) (quoted_name (Ok (take s.count s.places)) c.in_ok-expect.ensures (spelt_done s c.in_ok-expect-2.ensures))

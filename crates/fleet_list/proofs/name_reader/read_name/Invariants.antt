@@ -1,10 +1,7 @@
-use Rattle.std.proofs.Common.{◌-◌, [], length, drop}
-use Rattle.fleet_list.specs.declared.name_reader.NameState.TheVariants.{Before}
-use Rattle.fleet_list.proofs.Turns.{run, Going}
+use Rattle.std.proofs.Common.{◌<◌}
+use Rattle.fleet_list.specs.Cursors.{IsAt}
+use Rattle.fleet_list.proofs.Spelled.{Spelled}
 use Rattle.fleet_list.proofs.name_reader.read_name.Given as goal
 
-abbrev pub invariant-loop-at : goal.invariant-loop-at
-invariant-loop-at l = Going l.text (run Before [] l.from (drop l.from l.text)) l.at l.reader
-
-abbrev pub decreases-loop-at : goal.decreases-loop-at
-decreases-loop-at l = length l.text - l.at
+abbrev pub invariant-loop-slot : goal.invariant-loop-slot
+invariant-loop-slot l = record { spelled : Spelled l.initial.cursor l.cursor l.letters l.slot-index; onward : 0 < l.slot-index → IsAt 34 l.cursor → ⊥ }

@@ -1,8 +1,10 @@
-use Rattle.fleet_list.specs.Lists.{line_text}
-use Rattle.fleet_list.specs.Tables.{gathered}
-use Rattle.fleet_list.proofs.Gathers.{Walk}
-use Rattle.fleet_list.proofs.Sizes.{Summed}
+use Rattle.std.proofs.Common.{◌≡◌, ◌+◌, length}
+use Rattle.fleet_list.specs.Consists.{items_in}
+use Rattle.fleet_list.specs.Lists.{list_text}
 use Rattle.fleet_list.proofs.text_size.list_size.Given as goal
 
-abbrev pub invariant-loop-head : goal.invariant-loop-head
-invariant-loop-head l = Summed line_text (gathered l.heads l.vehicles) l.head-index l.size × Walk l.heads l.vehicles l.head-index l.from
+abbrev pub invariant-loop-consist : goal.invariant-loop-consist
+invariant-loop-consist l =
+    (goal.iterator-loop-consist).can_next l.consist-iterator
+    × (goal.iterator-loop-consist).is_finite l.consist-iterator
+    × (l.size + length (list_text (items_in l.consist-iterator)) ≡ length (list_text (items_in l.fn.consists)))

@@ -1,23 +1,15 @@
-use Rattle.std.proofs.Common.{arith}
+use Rattle.std.proofs.Common.{◌≡◌, ◌^◌, ◌<◌, length, rules, arith}
+use Rattle.std.specs.List.{sum_by}
 use Rattle.fleet_list.specs.Texts.{vehicle_text}
-use Rattle.fleet_list.proofs.Sizes.{summed_none, summed_more, next_small, sum_small, summed_all}
+use Rattle.fleet_list.proofs.Sizes.{flat_long}
 use Rattle.fleet_list.proofs.text_size.vehicles_size.Goals as goal
 
-pub loop-vehicle-init : goal.loop-vehicle-init
-loop-vehicle-init c = summed_none vehicle_text c.args.vehicles.now
-
-pub vehicle_size-size-requires : goal.vehicle_size-size-requires
-vehicle_size-size-requires c = next_small vehicle_text c.args.vehicles.now c.loop-vehicle.vehicle-index c.loop-vehicle.size _ c.loop-vehicle.invariant c.loop-vehicle-test.true c.requires
-
-pub overflow_add-size : goal.overflow_add-size
-overflow_add-size c =
-    let h = sum_small vehicle_text c.args.vehicles.now c.loop-vehicle.vehicle-index c.loop-vehicle.size _ c.vehicle_size-size.result c.loop-vehicle.invariant c.loop-vehicle-test.true c.requires c.vehicle_size-size.ensures in
-    omega arith
-
-pub loop-vehicle-preserved : goal.loop-vehicle-preserved
-loop-vehicle-preserved c =
-    summed_more vehicle_text c.args.vehicles.now c.loop-vehicle.vehicle-index c.loop-vehicle.size _ c.vehicle_size-size.result c.loop-vehicle.invariant c.loop-vehicle-test.true
-    c.vehicle_size-size.ensures
+pub sum-requires-clause-fits : goal.sum-requires-clause-fits
+sum-requires-clause-fits c =
+    let s : sum_by (λ v. length (vehicle_text v)) c.args.vehicles.now < 2 ^ 64 = omega (arith, flat_long vehicle_text c.args.vehicles.now, c.requires) in
+    search rules
 
 pub returns : goal.returns
-returns c = summed_all vehicle_text c.args.vehicles.now c.loop-vehicle.vehicle-index c.loop-vehicle.size c.loop-vehicle.invariant c.loop-vehicle-test.false
+returns c =
+    let s : c.sum.result ≡ sum_by (λ v. length (vehicle_text v)) c.args.vehicles.now = search rules in
+    omega (arith, flat_long vehicle_text c.args.vehicles.now)

@@ -1,13 +1,8 @@
-use Rattle.std.proofs.Common.{◌≡◌, ℕ, ◌+◌, ◌/◌, ◌%◌, ◌^◌, ◌<◌, ◌≤◌, [], ◌∷◌, length, decimal, sym, ap, ◌∙◌, arith, length-append}
+use Rattle.std.proofs.Common.{◌+◌, ◌%◌, sym, arith}
 use Rattle.std.proofs.lemmas.Fmt.{decimal_digit, decimal_step}
 use Rattle.fleet_list.proofs.Behind.{then_byte, written_none, same_text}
+use Rattle.fleet_list.proofs.Sizes.{long_one, long_more}
 use Rattle.fleet_list.proofs.text_writer.+put_decimal.Goals as goal
-
-long_one : (n : ℕ) → n < 10 → length (decimal n) ≡ 1
-long_one n l = ap length (decimal_digit n l)
-
-long_more : (n : ℕ) → 10 ≤ n → n < 2 ^ 32 → length (decimal n) ≡ length (decimal (n / 10)) + 1
-long_more n l m = ap length (decimal_step n l (omega arith)) ∙ length-append (decimal (n / 10)) ((48 + n % 10) ∷ [])
 
 pub bounds-out-0 : goal.bounds-out-0
 bounds-out-0 t c = omega (arith, long_one c.args.n c.if-n-lt10.true)
@@ -20,11 +15,6 @@ put_decimal-at-requires t c = (omega arith, omega (arith, long_more c.args.n c.i
 
 pub bounds-out-at : goal.bounds-out-at
 bounds-out-at t c =
-    let w = c.put_decimal-at.ensures in
-    omega (arith, long_more c.args.n c.if-n-lt10.false (omega arith), w.long)
-
-pub overflow_add-result : goal.overflow_add-result
-overflow_add-result t c =
     let w = c.put_decimal-at.ensures in
     omega (arith, long_more c.args.n c.if-n-lt10.false (omega arith), w.long)
 

@@ -1,9 +1,10 @@
-use Rattle.std.proofs.Common.{◌-◌, length}
-use Rattle.fleet_list.proofs.Cars.{Going}
+use Rattle.std.proofs.Common.{◌-◌, ◌≤◌, take}
+use Rattle.fleet_list.specs.Parts.{GoodCar, spaced, cars}
+use Rattle.fleet_list.proofs.Runs.{Along}
 use Rattle.fleet_list.proofs.vehicle_reader.read_others.Given as goal
 
-abbrev pub invariant-loop-at : goal.invariant-loop-at
-invariant-loop-at l = Going l.text l.from l.room l.count l.at
+abbrev pub invariant-loop-count : goal.invariant-loop-count
+invariant-loop-count l = record { few : l.count ≤ 31; along : Along GoodCar spaced l.initial.cursor l.cursor (cars (take l.count l.room)) }
 
-abbrev pub decreases-loop-at : goal.decreases-loop-at
-decreases-loop-at l = length l.text - l.at
+abbrev pub decreases-loop-count : goal.decreases-loop-count
+decreases-loop-count l = 31 - l.count
