@@ -29,11 +29,6 @@ use Rattle.directory.proofs.Behind.{front}
 use Rattle.directory.proofs.Runs.{length-seats}
 use Rattle.directory.proofs.Sections.{rows-map}
 
-pub take_most : {A : Type 0} (n : ℕ) (xs : List A) → length (take n xs) ≤ n
-take_most zero xs = omega arith
-take_most (suc n) [] = omega arith
-take_most (suc n) (x ∷ xs) = let r = take_most n xs in omega arith
-
 section-map : {A B : Type 0} (row : ℕ → B → List ℕ) (other : ℕ → A → List ℕ) (f : A → B) → ((n : ℕ) (x : A) → row n (f x) ≡ other n x)
     → (xs : List A) → section row (map f xs) ≡ section other xs
 section-map row other f h xs = ap₂ (λ n bs. n ∷ bs) (length-map xs f) (rows-map row other f h 1 xs)
@@ -111,12 +106,6 @@ module _ (f : Facts) (m : Meaning) where
             then_answers Composing (formation_checks f m) (train_checks f m ++ (order_checks f.confirmed (from_head f m) ++ room_check f m room ∷ [])) o one
             (then_answers Composing (train_checks f m) (order_checks f.confirmed (from_head f m) ++ room_check f m room ∷ []) o two
             (last_answers Composing (order_checks f.confirmed (from_head f m)) (room_check f m room) o (h ∙ ap (λ z. refusal Composing (order_checks f.confirmed z)) eh) e))
-
-  -- the head, as the code lends it
-  pub head_lent : (blank tr head : List Car) (n k : ℕ) → tr ≡ train m f.claims f.formation → length tr ≡ k → k ≡ n
-      → Written (met turned_car (orientation f) tr) blank (length tr) head → take (n - 0) head ≡ from_head f m
-  head_lent blank tr head n k et el ek w =
-      ap (λ j. take (j - 0) head) (sym (el ∙ ek)) ∙ front w ∙ ap (met turned_car (orientation f)) et
 
 pub lent_text : (h : Head) {a x : List TrainRow} {b y : List ConsistRow} {c z : List VehicleRow} → a ≡ x → b ≡ y → c ≡ z
     → whole_of h (section train_row a) (section consist_row b ++ section vehicle_row c) ≡ whole_of h (section train_row x) (section consist_row y ++ section vehicle_row z)

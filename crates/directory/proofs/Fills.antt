@@ -38,6 +38,3 @@ copied xs before copy e h =
     let z : length xs - 0 ≡ length xs = omega arith in
     record { wrote = ap₂ (λ a b. a ++ b) e (ap (λ k. drop k before) z); long = refl; fits = h }
 
--- the row of an entry, with the counter that was asked for
-pub filled_entry_row : (m : Meaning) (e : Coupled) (n : ℕ) → n ≡ counter_of (m e.identity) → ◌≡◌ {A = TrainRow} (record { identity = e.identity; counter = n; facing = e.facing }) (train_row_of m e)
-filled_entry_row m e n q = ap (λ k. record { identity = e.identity; counter = k; facing = e.facing }) q

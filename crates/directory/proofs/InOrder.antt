@@ -14,9 +14,6 @@ use Rattle.directory.specs.Steps.{next_place}
 nothing_same : {X : Type 0} → ◌≡◌ {A = ℕ} 0 1 → X
 nothing_same z = absurd (omega arith)
 
-no_name : Name
-no_name = record { bytes = [] }
-
 module _ (held : List Name) where
   -- the train's name is next, and met
   met_next : (n : Name) (ns : List Name) (at : ℕ) → among same_name n held ≡ true → at < length held → same_name n (get_or held at (record { bytes = [] })) ≡ true
@@ -25,16 +22,6 @@ module _ (held : List Name) where
       ap (λ b. same_names (cond b (n ∷ struck held ns) (struck held ns)) (drop at held)) a
       ∙ ap (same_names (n ∷ struck held ns)) (drop_more held at (record { bytes = [] }) h)
       ∙ ap (λ b. b && same_names (struck held ns) (drop (at + 1) held)) s
-
-  missed : (n : Name) (ns : List Name) (at : ℕ) → among same_name n held ≡ true → (ltb at (length held) && same_name n (get_or held at (record { bytes = [] }))) ≡ false
-      → same_names (struck held (n ∷ ns)) (drop at held) ≡ false
-  missed n ns at a e = ap (λ b. same_names (cond b (n ∷ struck held ns) (struck held ns)) (drop at held)) a ∙ by (ltb at (length held)) refl
-    where
-      by : (b : Bool) → ltb at (length held) ≡ b → same_names (n ∷ struck held ns) (drop at held) ≡ false
-      by true q =
-          ap (same_names (n ∷ struck held ns)) (drop_more held at (record { bytes = [] }) (ltb-true at (length held) q))
-          ∙ ap (λ b. b && same_names (struck held ns) (drop (at + 1) held)) (rw q at e)
-      by false q = ap (same_names (n ∷ struck held ns)) (drop_all at held (ltb-false at (length held) q))
 
   passed : (n : Name) (ns : List Name) (at : ℕ) → among same_name n held ≡ false → same_names (struck held (n ∷ ns)) (drop at held) ≡ same_names (struck held ns) (drop at held)
   passed n ns at a = ap (λ b. same_names (cond b (n ∷ struck held ns) (struck held ns)) (drop at held)) a
@@ -61,16 +48,6 @@ module _ (held : List Name) where
           let same : next ≡ at = cc in
           passed (get_or ns i d) (drop (i + 1) ns) at q ∙ ap (λ k. same_names (struck held (drop (i + 1) ns)) (drop k held)) (sym same)
 
-  pub walk_off : (ns : List Name) (i at : ℕ) (d : Name) → i < length ns → None ≡ next_place (get_or ns i d) held at → same_names (struck held (drop i ns)) (drop at held) ≡ false
-  walk_off ns i at d h e =
-      ap (λ z. same_names (struck held z) (drop at held)) (drop_more ns i d h) ∙ by (among same_name (get_or ns i d) held) refl (ltb at (length held) && same_name (get_or ns i d) (get_or held at (record { bytes = [] }))) refl
-    where
-      by : (a : Bool) → among same_name (get_or ns i d) held ≡ a → (b : Bool) → (ltb at (length held) && same_name (get_or ns i d) (get_or held at (record { bytes = [] }))) ≡ b
-          → same_names (struck held (get_or ns i d ∷ drop (i + 1) ns)) (drop at held) ≡ false
-      by true q true r = let f = rw (q, r) at e in nothing_same (cc)
-      by true q false r = missed (get_or ns i d) (drop (i + 1) ns) at q r
-      by false q b r = let f = rw q at e in nothing_same (cc)
-
   pub walk_end : (ns : List Name) (i at n : ℕ) → length ns ≤ i → at ≤ length held → n ≡ length held → same_names (struck held (drop i ns)) (drop at held) ≡ eqb at n
   walk_end ns i at n h w en = ap (λ z. same_names (struck held z) (drop at held)) (drop_all i ns h) ∙ by (ltb at (length held)) refl
     where
@@ -82,29 +59,12 @@ module _ (held : List Name) where
           let l = ltb-false at (length held) q in
           ap (same_names []) (drop_all at held l) ∙ sym (eq-eqb at n (omega arith))
 
--- the name of the vehicle at a place, within the train
-pub test_name_at : (cs : List Car) (n : Name) (at : ℕ) → (ltb at (length cs) && same_name n (get_or cs at no_car).name) ≡ (ltb at (length (names cs)) && same_name n (get_or (names cs) at (record { bytes = [] })))
-test_name_at cs n at = by (ltb at (length cs)) refl
-  where
-    by : (b : Bool) → ltb at (length cs) ≡ b → (ltb at (length cs) && same_name n (get_or cs at no_car).name) ≡ (ltb at (length (names cs)) && same_name n (get_or (names cs) at (record { bytes = [] })))
-    by true q =
-        let l = ltb-true at (length cs) q in
-        ap₂ ◌&&◌ (ap (ltb at) (sym (length-map cs (λ c. c.name)))) (ap (same_name n) (sym (get_or-map (λ c. c.name) cs at no_car (record { bytes = [] }) l)))
-    by false q =
-        ap (λ b. b && same_name n (get_or cs at no_car).name) q ∙ ap (λ b. b && same_name n (get_or (names cs) at (record { bytes = [] }))) (sym q ∙ ap (ltb at) (sym (length-map cs (λ c. c.name))))
-
 pub some_order : (ns held : List Name) → (length ns ≡ 0 → ⊥) → in_order ns held ≡ same_names (struck held ns) held
 some_order [] held h = absurd (h refl)
 some_order (n ∷ ns) held h = refl
-
-pub ordered_by : (ns : List Name) (cs : List Car) → (length ns ≡ 0 → ⊥) → map (pick cs) ns ≡ ordered ns cs
-ordered_by [] cs h = absurd (h refl)
-ordered_by (n ∷ ns) cs h = refl
 
 -- what a step along the train finds
 module _ (n : Name) (held : List Name) (at : ℕ) (a : true ≡ among same_name n held) where
   pub step_met : true ≡ (ltb at (length held) && same_name n (get_or held at (record { bytes = [] }))) → Some (at + 1) ≡ next_place n held at
   step_met e = ap₂ (λ x y. cond x (cond y (Some (at + 1)) None) (Some at)) a e
 
-  pub step_missed : false ≡ (ltb at (length held) && same_name n (get_or held at (record { bytes = [] }))) → None ≡ next_place n held at
-  step_missed e = ap₂ (λ x y. cond x (cond y (Some (at + 1)) None) (Some at)) a e

@@ -15,7 +15,6 @@ use Rattle.directory.specs.Cars.{mark, cars, met, stretch, train, turned_car}
 use Rattle.train.specs.Turning.{turned_list}
 use borrow.Rule.Slice.PartMut.{post_of}
 use Rattle.directory.specs.Written.{Written}
-use Rattle.directory.proofs.Behind.{room_left}
 
 pub length-cars : (x : Identity) (claim : Option Claim) (k : ℕ) (vs : List Vehicle) → length (cars x claim k vs) ≡ length vs
 length-cars x claim k [] = refl
@@ -43,18 +42,10 @@ pub record Loading (x : Identity) (claim : Option Claim) (vs : List Vehicle) (k 
   pub laid : now ≡ before ++ cars x claim 1 (take k vs)
   pub enough : k ≤ length vs
 
-pub loading_none : (x : Identity) (claim : Option Claim) (vs : List Vehicle) (before : List Car) → Loading x claim vs 0 before before
-loading_none x claim vs before = record { laid = sym (append-nil before); enough = omega arith }
-
 pub nth_some : {A : Type 0} (xs : List A) (i : ℕ) (x : A) → slice_get xs i ≡ Some x → (i < length xs) × (x ≡ get_or xs i x)
 nth_some [] i x e = let z : ◌≡◌ {A = ℕ} 0 1 = cc in absurd (omega arith)
 nth_some (y ∷ ys) zero x e = (omega arith, cc)
 nth_some (y ∷ ys) (suc i) x e = let r = nth_some ys i x e in (omega (arith, r.0), r.1)
-
-nth_none : {A : Type 0} (xs : List A) (i : ℕ) → slice_get xs i ≡ None → length xs ≤ i
-nth_none [] i e = omega arith
-nth_none (y ∷ ys) zero e = let z : ◌≡◌ {A = ℕ} 0 1 = cc in absurd (omega arith)
-nth_none (y ∷ ys) (suc i) e = let r = nth_none ys i e in omega arith
 
 pub loading_more : (x : Identity) (claim : Option Claim) (vs : List Vehicle) (k : ℕ) (before now : List Car) (v : Vehicle) (lead : Facing)
     → Loading x claim vs k before now → slice_get vs k ≡ Some v → lead ≡ mark claim (k + 1)
@@ -83,14 +74,6 @@ loading_room x claim vs k most before now v l e room =
     let taken = length-cars x claim 1 (take k vs) ∙ length-take-le k vs l.enough in
     omega (arith, r.0, long, taken, room)
 
-pub loading_all : (x : Identity) (claim : Option Claim) (vs : List Vehicle) (k : ℕ) (before now : List Car)
-    → Loading x claim vs k before now → length vs ≤ k → now ≡ before ++ cars x claim 1 vs
-loading_all x claim vs k before now l h = l.laid ∙ ap (λ ws. before ++ cars x claim 1 ws) (take_all k vs h)
-
-pub loading_end : (x : Identity) (claim : Option Claim) (vs : List Vehicle) (k : ℕ) (before now : List Car)
-    → Loading x claim vs k before now → slice_get vs k ≡ None → now ≡ before ++ cars x claim 1 vs
-loading_end x claim vs k before now l e = loading_all x claim vs k before now l (nth_none vs k e)
-
 -- the length of the train, entry by entry
 pub length-train : (m : Meaning) (claims : Identity → Option Claim) (es : List Coupled) → length (train m claims es) ≡ sum_by (λ e. length (vehicles_of (m e.identity))) es
 length-train m claims es = length-flat_map (stretch m claims) es ∙ ap (λ (f : Coupled → ℕ). sum_by f es) (λ i e. length-stretch m claims e i)
@@ -98,27 +81,6 @@ length-train m claims es = length-flat_map (stretch m claims) es ∙ ap (λ (f :
 -- what the fleet's questions answer
 pub asked : (o : Option Consist) (k : ℕ) → vehicle_in o (k + 1) ≡ slice_get (vehicles_of o) k
 asked o k = rw add-one
-
-pub few_vehicles : (o : Option Consist) → Lawful o → length (vehicles_of o) ≤ 32
-few_vehicles None l = omega arith
-few_vehicles (Some c) l = l.few
-
-pub found_some : (o : Option Consist) → is_some (found_in o) ≡ is_some o
-found_some None = refl
-found_some (Some c) = refl
-
--- the front that was laid out is turned in place
-pub turned_front : (cs before after turned : List Car) (n : ℕ) → Written cs before n after → turned ≡ turned_list turned_car (take (n - 0) after)
-    → Written (turned_list turned_car cs) before n (turned ++ post_of 0 (n - 0) after)
-turned_front cs before after turned n f e =
-    let z : n - 0 ≡ n = omega arith in
-    let front : take (n - 0) after ≡ cs = ap (λ k. take k after) z ∙ ap (take n) f.wrote ∙ take_at cs (drop n before) n f.long in
-    let back : drop (n - 0) after ≡ drop n before = ap (λ k. drop k after) z ∙ ap (drop n) f.wrote ∙ drop_at cs (drop n before) n f.long in
-    record {
-      wrote = ap₂ (λ a b. a ++ b) (e ∙ ap (turned_list turned_car) front) back;
-      long = length-map (reverse cs) turned_car ∙ length-reverse cs ∙ f.long;
-      fits = f.fits;
-    }
 
 pub met_inverse : (m : Meaning) (claims : Identity → Option Claim) (e : Coupled) → e.facing ≡ Inverse
     → turned_list turned_car (cars e.identity (claims e.identity) 1 (vehicles_of (m e.identity))) ≡ stretch m claims e
@@ -145,11 +107,3 @@ train_room m claims es i d h =
     let three = length-stretch m claims (get_or es i d) in
     omega arith
 
-pub entry_room : (m : Meaning) (claims : Identity → Option Claim) (es all : List Coupled) (i : ℕ) (d : Coupled) (xs out : List Car) (at k : ℕ)
-    → Written (train m claims (take i es)) xs at out → es ≡ all → length (train m claims all) ≤ length xs → i < length es → k ≡ length out - at
-    → length (vehicles_of (m (get_or es i d).identity)) ≤ length (take k (drop at out))
-entry_room m claims es all i d xs out at k w e room h ek =
-    let whole = ap (λ z. length (train m claims z)) e in
-    let part = train_room m claims es i d h in
-    let long = w.long in
-    room_left w ek (length (vehicles_of (m (get_or es i d).identity))) (omega arith)

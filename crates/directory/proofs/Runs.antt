@@ -35,32 +35,6 @@ pub record Collecting {A : Type 0} (g : Car → A) (cs : List Car) (i : ℕ) (pr
   pub left : table ++ map g (firsts (ident prior) (drop i cs)) ≡ map g (firsts nobody cs)
   pub few : length table ≤ i
 
-module _ {A : Type 0} (g : Car → A) (cs : List Car) {i : ℕ} {prior : List ℕ} {table : List A} (s : Collecting g cs i prior table) where
-  pub collecting_same : (d : Car) → i < length cs → true ≡ bytes_eq prior (get_or cs i d).consist.bytes → Collecting g cs (i + 1) prior table
-  collecting_same d h e =
-      record {
-        left =
-            ap (λ b. table ++ map g (cond b (firsts (ident prior) (drop (i + 1) cs)) (get_or cs i d ∷ firsts (get_or cs i d).consist (drop (i + 1) cs)))) e
-            ∙ ap (λ z. table ++ map g (firsts (ident prior) z)) (sym (drop_more cs i d h)) ∙ s.left;
-        few = omega (arith, s.few);
-      }
-
-  pub collecting_more : (d : Car) → i < length cs → (y : A) → false ≡ bytes_eq prior (get_or cs i d).consist.bytes → y ≡ g (get_or cs i d)
-      → Collecting g cs (i + 1) (get_or cs i d).consist.bytes (table ++ y ∷ [])
-  collecting_more d h y e q =
-      let rest = map g (firsts (get_or cs i d).consist (drop (i + 1) cs)) in
-      let long = length_push table y in
-      record {
-        left =
-            append_assoc table (y ∷ []) rest ∙ ap (λ w. table ++ w ∷ rest) q
-            ∙ ap (λ b. table ++ map g (cond b (firsts (ident prior) (drop (i + 1) cs)) (get_or cs i d ∷ firsts (get_or cs i d).consist (drop (i + 1) cs)))) e
-            ∙ ap (λ z. table ++ map g (firsts (ident prior) z)) (sym (drop_more cs i d h)) ∙ s.left;
-        few = omega (arith, s.few, long);
-      }
-
-  pub collecting_all : length cs ≤ i → table ≡ map g (firsts nobody cs)
-  collecting_all h = sym (ap (λ z. table ++ map g (firsts (ident prior) z)) (drop_all i cs h) ∙ append-nil table) ∙ s.left
-
 -- the same for seats, one for each car
 pub record Seating {A : Type 0} (g : Seat → A) (cs : List Car) (i run : ℕ) (prior : List ℕ) (table : List A) : Type 0 where
   pub left : table ++ map g (seats run (ident prior) (drop i cs)) ≡ map g (seats 0 nobody cs)
@@ -95,5 +69,3 @@ module _ {A : Type 0} (g : Seat → A) (cs : List Car) {i run : ℕ} {prior : Li
           ap (λ k. record { car = get_or cs i d; run = k } ∷ seats k (get_or cs i d).consist (drop (i + 1) cs)) n
           ∙ sym (ap (λ b. cond b (record { car = get_or cs i d; run = run } ∷ seats run (ident prior) (drop (i + 1) cs)) (record { car = get_or cs i d; run = run + 1 } ∷ seats (run + 1) (get_or cs i d).consist (drop (i + 1) cs))) e)
 
-  pub seating_all : length cs ≤ i → table ≡ map g (seats 0 nobody cs)
-  seating_all h = sym (ap (λ z. table ++ map g (seats run (ident prior) z)) (drop_all i cs h) ∙ append-nil table) ∙ s.left

@@ -3,7 +3,6 @@ use Rattle.std.proofs.Common.{◌≡◌, ℕ, suc, ◌+◌, ◌-◌, ◌*◌, �
 use Rattle.std.proofs.lemmas.List.{take_more, append-nil, length-take-le}
 use Rattle.directory.specs.Sections.{rows}
 use Rattle.directory.specs.Written.{Written}
-use Rattle.directory.proofs.Behind.{room_left}
 
 module _ {A : Type 0} (row : ℕ → A → List ℕ) where
   pub rows_push : (n : ℕ) (xs : List A) (x : A) → rows row n (xs ++ x ∷ []) ≡ rows row n xs ++ row (n + length xs) x
@@ -26,12 +25,6 @@ rows-map row other f h n (x ∷ xs) = ap (λ bs. bs ++ rows row (n + 1) (map f x
 -- the room that i rows of one size take
 pub times_more : (size i : ℕ) → size * (i + 1) ≡ size * i + size
 times_more size i = mul-add size i 1 ∙ ap (λ k. size * i + k) (mul-one size)
-
-pub row_room : {a xs out : List ℕ} {n k : ℕ} (size i len : ℕ) → Written a xs n out → k ≡ length out - n → n ≡ size * i → i < len → size * len ≤ length xs → size ≤ length (take k (drop n out))
-row_room {a} {xs} {out} {n} {k} size i len w ek en h room =
-    let more = times_more size i in
-    let le : size * (i + 1) ≤ size * len = mul-le-mul_left size (omega arith) in
-    room_left w ek size (omega arith)
 
 -- the last eight bytes of a vehicle's row
 pub eight : (n k r a b d x y z : ℕ) → a ≡ x → b ≡ y → d ≡ z → n ∷ a ∷ b ∷ k ∷ d ∷ r ∷ 0 ∷ 0 ∷ [] ≡ n ∷ x ∷ y ∷ k ∷ z ∷ r ∷ 0 ∷ 0 ∷ []

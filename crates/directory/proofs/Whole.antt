@@ -7,11 +7,6 @@ use Rattle.directory.specs.declared.writing.Head.{Head}
 use Rattle.directory.specs.Whole.{header_of, whole_of}
 use Rattle.directory.specs.Written.{Written}
 
--- four writes of four bytes, one behind another
-pub header_text : (a b c d x y z : List ℕ) → b ≡ x → c ≡ y → d ≡ z → ((a ++ b) ++ c) ++ d ≡ a ++ (x ++ (y ++ z))
-header_text a b c d x y z p q r =
-    append_assoc (a ++ b) c d ∙ append_assoc a b (c ++ d) ∙ ap₂ (λ u v. a ++ (u ++ v)) p (ap₂ (λ u v. u ++ v) q r)
-
 module _ (xs last first rest : List ℕ) (k train all : ℕ) (ek : k ≡ length xs - 16) (room : 16 ≤ length xs)
     (w : Written (first ++ rest) (take k (drop 16 xs)) all last) (long : length first ≡ train) (inside : train ≤ all) where
   lent : take k (drop 16 xs) ≡ drop 16 xs

@@ -37,6 +37,3 @@ pub last_present : (o : Option Consist) (f : Found) → Lawful o → Some f ≡ 
 last_present None f l e = refl
 last_present (Some c) f l e = some_last c.vehicles l.some
 
-pub none_found : (o : Option Consist) → None ≡ found_in o → o ≡ None
-none_found None e = refl
-none_found (Some c) e = never _ (sym e)

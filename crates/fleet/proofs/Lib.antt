@@ -1,5 +1,4 @@
 pub mod Found
-pub mod Finds
 pub mod Crowds
 pub mod Answered
 pub mod Identified

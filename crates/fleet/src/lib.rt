@@ -6,5 +6,5 @@ mod checks;
 mod parts;
 pub mod questions;
 pub mod roster;
-mod rows;
+pub mod rows;
 mod seek;

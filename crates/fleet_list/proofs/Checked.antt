@@ -4,10 +4,14 @@ use Rattle.std.proofs.lemmas.List.{get_or-map, take_more, drop_more}
 use Rattle.train.specs.declared.refusal.Part.{Part}
 use Rattle.train.specs.declared.refusal.Place.TheVariants.{At}
 use Rattle.train.specs.declared.refusal.Reason.{Reason}
+use Rattle.train.specs.declared.refusal.Reason.TheVariants.{IdentityOrder}
 use Rattle.train.specs.declared.refusal.Refusal.{Refusal}
-use Rattle.train.specs.Refusals.{Check, Rule, each_behind, breach, refusal, or_else}
-use Rattle.train.proofs.Rules.{each_past, each_here, each_all}
-use Rattle.fleet_list.specs.Imports.{last_of}
+use Rattle.train.specs.Refusals.{Check, Rule, each, each_behind, breach, refusal, or_else}
+use Rattle.train.proofs.Rules.{each_past, each_here, each_all, each-map}
+use Rattle.train.specs.Identities.{last_identity, rises, ascending}
+use Rattle.fleet_list.specs.declared.tables.Head.{Head}
+use Rattle.fleet_list.specs.Entries.{head_identity}
+use Rattle.fleet_list.specs.Imports.{rising}
 use Rattle.fleet_list.proofs.Four.{length-map}
 
 module _ {A B : Type 0} (rule : Rule A) (reason : Reason) (f : B → A) (ys : List B) (i : ℕ) where
@@ -22,15 +26,14 @@ module _ {A B : Type 0} (rule : Rule A) (reason : Reason) (f : B → A) (ys : Li
   pub part_all : (part : Part) → length ys ≤ i → breach part (each_behind rule reason (take i (map f ys)) (drop i (map f ys))) ≡ None
   part_all part l = each_all rule reason (map f ys) i part (omega (arith, length-map f ys))
 
-pub last_push : (xs : List (List ℕ)) (x : List ℕ) → last_of (xs ++ x ∷ []) ≡ x
-last_push [] x = refl
-last_push (y ∷ []) x = refl
-last_push (y ∷ z ∷ ys) x = last_push (z ∷ ys) x
+-- identities rise as the heads that they are of
+last_read : (hs : List Head) → last_identity head_identity hs ≡ last_identity (λ id. id) (map head_identity hs)
+last_read [] = refl
+last_read (h ∷ []) = refl
+last_read (h ∷ k ∷ hs) = last_read (k ∷ hs)
 
--- the last of one entry more
-pub last_more : {B : Type 0} (f : B → List ℕ) (ys : List B) (i : ℕ) (d : B) → i < length ys → f (get_or ys i d) ≡ last_of (take (i + 1) (map f ys))
-last_more f ys i d l =
-    sym (ap last_of (take_more (map f ys) i [] (omega (arith, length-map f ys))) ∙ last_push (take i (map f ys)) (get_or (map f ys) i []) ∙ get_or-map f ys i d [] l)
+pub heads_rise : (hs : List Head) → each (ascending head_identity) IdentityOrder hs ≡ each rising IdentityOrder (map head_identity hs)
+heads_rise hs = each-map head_identity (ascending head_identity) rising (λ before x. ap (λ p. rises p (head_identity x)) (last_read before)) IdentityOrder hs
 
 -- a check that is met, and one that is not
 pub met : (part : Part) (c : Check) (cs : List Check) → breach part c ≡ None → refusal part (c ∷ cs) ≡ refusal part cs

@@ -15,9 +15,10 @@ use Rattle.fleet.specs.Halves.{differ, differs}
 use Rattle.fleet.specs.Heads.{first_met, none_first}
 use Rattle.fleet.specs.Writings.{name_long}
 use Rattle.fleet_list.specs.Lists.{IsLine}
-use Rattle.fleet_list.specs.Imports.{identity_in, vehicles_of, last_of, rising, names_apart, room_for, line_checks, list_checks}
+use Rattle.fleet_list.specs.Imports.{identity_in, vehicles_of, rising, names_apart, room_for, line_checks, list_checks}
 use Rattle.fleet_list.proofs.BookRows.{row_long}
-use Rattle.fleet_list.proofs.Checked.{last_push}
+use Rattle.train.proofs.Rules.{last_added}
+use Rattle.train.specs.Identities.{last_identity}
 
 pub all_map : {A : Type 0} (P Q : A → Type 0) → ((x : A) → P x → Q x) → (xs : List A) → AllByRecursion P xs → AllByRecursion Q xs
 all_map P Q f [] h = tt
@@ -43,20 +44,20 @@ Above prior i = below prior (identity_in i) ≡ true
 abbrev Real : Item → Type 0
 Real i = bytes_eq (identity_in i) zeros ≡ false
 
-rises_by : (before : List (List ℕ)) (is : List Item) → keeps rising before (map identity_in is) ≡ true → AllByRecursion (Above (last_of before)) is × Rising is × AllByRecursion Real is
+rises_by : (before : List (List ℕ)) (is : List Item) → keeps rising before (map identity_in is) ≡ true → AllByRecursion (Above (last_identity (λ id. id) before)) is × Rising is × AllByRecursion Real is
 rises_by before [] h = (tt, tt, tt)
 rises_by before (i ∷ is) h =
     let p = and_parts _ _ h in
     let q = and_parts _ _ p.0 in
     let r = rises_by (before ++ identity_in i ∷ []) is p.1 in
-    let above = subst (λ z. AllByRecursion (Above z) is) (last_push before (identity_in i)) r.0 in
-    ((q.1, all_map (Above (identity_in i)) (Above (last_of before)) (λ j l. below_trans (last_of before) (identity_in i) (identity_in j) q.1 l) is above), (above, r.1), (not-true _ q.0, r.2))
+    let above = subst (λ z. AllByRecursion (Above z) is) (last_added (λ id. id) before (identity_in i)) r.0 in
+    ((q.1, all_map (Above (identity_in i)) (Above (last_identity (λ id. id) before)) (λ j l. below_trans (last_identity (λ id. id) before) (identity_in i) (identity_in j) q.1 l) is above), (above, r.1), (not-true _ q.0, r.2))
 
-rises_back : (before : List (List ℕ)) (is : List Item) → AllByRecursion (Above (last_of before)) is → Rising is → AllByRecursion Real is → keeps rising before (map identity_in is) ≡ true
+rises_back : (before : List (List ℕ)) (is : List Item) → AllByRecursion (Above (last_identity (λ id. id) before)) is → Rising is → AllByRecursion Real is → keeps rising before (map identity_in is) ≡ true
 rises_back before [] a r n = refl
 rises_back before (i ∷ is) a r n =
     and_from _ _ (and_from _ _ (not_from_false _ n.0) a.0)
-    (rises_back (before ++ identity_in i ∷ []) is (subst (λ z. AllByRecursion (Above z) is) (sym (last_push before (identity_in i))) r.0) r.1 n.1)
+    (rises_back (before ++ identity_in i ∷ []) is (subst (λ z. AllByRecursion (Above z) is) (sym (last_added (λ id. id) before (identity_in i))) r.0) r.1 n.1)
 
 above_none : (bs : List ℕ) → length bs ≡ 16 → below [] bs ≡ true
 above_none [] e = absurd (omega arith)

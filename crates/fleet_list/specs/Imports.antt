@@ -8,7 +8,7 @@ use Rattle.train.specs.declared.refusal.Part.TheVariants.{Text}
 use Rattle.train.specs.declared.refusal.Place.TheVariants.{At}
 use Rattle.train.specs.declared.refusal.Reason.TheVariants.{ConsistCount, VehicleCount, IdentityOrder, Repeated, BufferShort}
 use Rattle.train.specs.declared.refusal.Refusal.{Refusal}
-use Rattle.fleet.specs.Rows.{rises}
+use Rattle.train.specs.Identities.{ascending}
 use Rattle.fleet.specs.Books.{Item, IsFleet, vehicles_in, book_of}
 use Rattle.fleet_list.specs.Lists.{IsLine, list_text}
 use Rattle.fleet_list.specs.Readings.{Broken}
@@ -20,15 +20,9 @@ identity_in i = i.identity.bytes
 abbrev pub vehicles_of : Item → List Vehicle
 vehicles_of i = i.consist.vehicles
 
--- the last of these identities; before the first no bytes, which stand below every identity
-abbrev pub last_of : List (List ℕ) → List ℕ
-last_of [] = []
-last_of (x ∷ []) = x
-last_of (x ∷ y ∷ ys) = last_of (y ∷ ys)
-
 -- an identity is not zero, and above the one before
 abbrev pub rising : Rule (List ℕ)
-rising before id = rises (last_of before) id
+rising = ascending (λ id. id)
 
 -- no name twice
 abbrev pub names_apart : List Vehicle → Bool

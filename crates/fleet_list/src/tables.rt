@@ -1,12 +1,14 @@
 // Consists in tables: a head for each, and the vehicles of all of them one behind another.
 ghost use Rattle.std.specs.Prelude.{◌≡◌, ◌≤◌, take};
+ghost use Rattle.fleet_list.specs.Entries.{head_of, head_identity};
 ghost use Rattle.fleet_list.specs.Tables.{counts};
 
 use crate::consists::Consists;
+use fleet::rows::{counter_of, identity_of, size_of};
+use train::checks::Labelled;
 use train::entries::Vehicle;
-use train::facing::Facing;
 use train::identity::Identity;
-use train::name::Name;
+use train::rows::ConsistRow;
 
 pub const LINES: usize = 200;
 
@@ -27,23 +29,32 @@ pub const VEHICLE: usize = 17;
 pub const FRAME: usize = 6;
 
 // A consist without its vehicles, and how many it has.
-#[derive(Clone, Copy)]
+#[derive(Clone, Copy, Default)]
 pub struct Head {
     pub identity: Identity,
     pub counter: u32,
     pub count: u8,
 }
 
-pub const NO_HEAD: Head = Head {
-    identity: Identity { bytes: [0; 16] },
-    counter: 0,
-    count: 0,
-};
+impl Labelled for Head {
+    ghost labels = { head_identity };
 
-pub const NO_VEHICLE: Vehicle = Vehicle {
-    name: Name { bytes: [0; 16] },
-    facing: Facing::NotKnown,
-};
+    fn label(&self) -> &[u8] {
+        &self.identity.bytes
+    }
+}
+
+impl From<ConsistRow> for Head {
+    ghost from_gives = { λ row head. head ≡ head_of row };
+
+    fn from(row: ConsistRow) -> Head {
+        Head {
+            identity: identity_of(&row),
+            counter: counter_of(&row),
+            count: size_of(&row),
+        }
+    }
+}
 
 /// How many consists and vehicles were read, and the tables that hold them where there is room for all.
 #[derive(Drop)]
@@ -60,9 +71,9 @@ impl Tables {
         ensures total { result.total ≡ 0 }
     {
         Tables {
-            heads: [NO_HEAD; HEADS],
+            heads: [Head::default(); HEADS],
             lines: 0,
-            vehicles: [NO_VEHICLE; ROOM],
+            vehicles: [Vehicle::default(); ROOM],
             total: 0,
         }
     }

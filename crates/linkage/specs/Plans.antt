@@ -1,6 +1,4 @@
 -- A plan: a book, and a run of calls on a new bench that is then composed over it, all as bytes.
-use Rattle.std.specs.Fn.{Shared, FnReturnsAt}
-use denote.Ref.{Bor}
 use Rattle.std.specs.Prelude.{◌≡◌, ℕ, ◌/◌, ◌%◌, Bool, true, cond, List, [], ◌∷◌, ◌++◌, map, length, take, IfOk, Some, None, Option, Result, MatchResult, ◌==◌}
 use Rattle.train.specs.declared.name.Name.{Name}
 use Rattle.train.specs.declared.refusal.Part.TheVariants.{Book, Bench}
@@ -45,10 +43,6 @@ said p = record {
 -- entries of w bytes, one behind another
 abbrev pub entries : ℕ → List ℕ → List (List ℕ)
 entries w bs = rows w (length bs / w) bs
-
--- each call of f at a reference answers what is read of the bytes behind it
-abbrev pub Reads : {F R A : Type 0} → Shared F (Bor R × Unit {0}) A → F → (R → A) → Type 0
-Reads {F} {R} {A} g f of = (x : R) (r : A) → FnReturnsAt g f x r → r ≡ of x
 
 abbrev pub name_of : List ℕ → Name
 name_of row = record { bytes = row }

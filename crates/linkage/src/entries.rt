@@ -1,12 +1,13 @@
 // The entries of a formation and of a confirmed list, in lent bytes.
 ghost use Rattle.std.specs.Prelude.{◌≡◌, ◌<◌, ◌≤◌, ◌%◌, ◌==◌, true, IfOk, map, length, is_err};
+ghost use Rattle.train.specs.Closures.{Gives};
 ghost use Rattle.train.specs.Refusals.{breach, must, refusal, refusal_of};
 ghost use Rattle.train.specs.Rows.{coupled_in};
 ghost use Rattle.train.specs.declared.refusal.Part.TheVariants.{Bench as OfBench};
 ghost use Rattle.train.specs.declared.refusal.Reason.TheVariants.{EntryCount};
 ghost use Rattle.bench.specs.Calls.{Call};
 ghost use Rattle.bench.specs.Facts.{nothing, checks as checks_of};
-ghost use Rattle.linkage.specs.Plans.{entries, Reads};
+ghost use Rattle.linkage.specs.Plans.{entries};
 
 use arrayvec::ArrayVec;
 use bench::state::MOST;
@@ -35,7 +36,7 @@ pub(crate) fn whole_entries<const N: usize>(bytes: &[u8]) -> Result<&[[u8; N]], 
 pub(crate) fn read<R, T: Copy + Default, F: Fn(&R) -> T>(rows: &[R], form: F) -> ArrayVec<T, MOST>
     requires callable { F.IsAlwaysCallable form }
     requires room { length rows.now ≤ 63 }
-    ensures { (of : R → T) → Reads F.Fn form of → result.items ≡ map of rows.now }
+    ensures { (of : R → T) → Gives F.Fn form of → result.items ≡ map of rows.now }
 {
     let mut list = ArrayVec::new();
     for row in rows {

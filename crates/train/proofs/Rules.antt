@@ -1,6 +1,6 @@
 -- What a loop over the entries of a slice needs: the check from where the loop stands.
-use Rattle.std.proofs.Common.{◌≡◌, ℕ, ◌+◌, ◌-◌, ◌<◌, ◌≤◌, Bool, true, false, not, ◌&&◌, List, [], ◌∷◌, ◌++◌, length, get_or, take, drop, Some, None, Option, sym, refl, ap, ◌∙◌, arith}
-use Rattle.std.proofs.lemmas.List.{drop_more, drop_all, take_more, length-take-le}
+use Rattle.std.proofs.Common.{◌≡◌, ℕ, ◌+◌, ◌-◌, ◌<◌, ◌≤◌, Bool, true, false, cond, not, ◌&&◌, List, [], ◌∷◌, ◌++◌, map, length, get_or, take, drop, Some, None, Option, sym, refl, ap, ◌∙◌, ap₂, arith}
+use Rattle.std.proofs.lemmas.List.{drop_more, drop_all, take_more, length-take-le, map-append, length-map}
 use Rattle.train.specs.declared.refusal.Part.{Part}
 use Rattle.train.specs.declared.refusal.Place.TheVariants.{At}
 use Rattle.train.specs.declared.refusal.Reason.{Reason}
@@ -8,7 +8,7 @@ use Rattle.train.specs.declared.refusal.Refusal.{Refusal}
 use Rattle.std.proofs.lemmas.Bool.{and_from}
 use Rattle.train.specs.Identities.{last_identity}
 use Rattle.train.specs.Names.{every}
-use Rattle.train.specs.Refusals.{Check, Rule, each_behind, breach, or_else, refusal, among, fresh}
+use Rattle.train.specs.Refusals.{Check, Rule, keeps, first_breach, each, each_behind, breach, or_else, refusal, among, fresh}
 
 -- `x` is the entry at i, as the code has it
 module _ {A : Type 0} (rule : Rule A) (reason : Reason) (xs : List A) (i : ℕ) where
@@ -30,6 +30,23 @@ module _ {A : Type 0} (rule : Rule A) (reason : Reason) (xs : List A) (i : ℕ) 
   -- all entries have been seen
   pub each_all : (part : Part) → length xs ≤ i → breach part (each_behind rule reason (take i xs) (drop i xs)) ≡ None
   each_all part h = rw drop_all
+
+-- a rule seen through a function
+module _ {A B : Type 0} (f : A → B) (rule : Rule A) (other : Rule B) (same : (before : List A) (x : A) → rule before x ≡ other (map f before) (f x)) where
+  keeps-map : (before xs : List A) → keeps rule before xs ≡ keeps other (map f before) (map f xs)
+  keeps-map before [] = refl
+  keeps-map before (x ∷ xs) =
+      ap₂ ◌&&◌ (same before x) (keeps-map (before ++ x ∷ []) xs ∙ ap (λ (b : List B). keeps other b (map f xs)) (map-append f before (x ∷ [])))
+
+  breach-map : (before xs : List A) → first_breach rule before xs ≡ first_breach other (map f before) (map f xs)
+  breach-map before [] = refl
+  breach-map before (x ∷ xs) =
+      ap (λ (b : Bool). cond b (first_breach rule (before ++ x ∷ []) xs) (length before + 1)) (same before x)
+      ∙ ap₂ (λ (p n : ℕ). cond (other (map f before) (f x)) p (n + 1))
+      (breach-map (before ++ x ∷ []) xs ∙ ap (λ (b : List B). first_breach other b (map f xs)) (map-append f before (x ∷ []))) (sym (length-map before f))
+
+  pub each-map : (reason : Reason) (xs : List A) → each rule reason xs ≡ each other reason (map f xs)
+  each-map reason xs = ap₂ (λ ok p. record { ok = ok; reason = reason; place = At p }) (keeps-map [] xs) (breach-map [] xs)
 
 -- checks one behind another
 pub refusal-joined : (part : Part) (cs ds : List Check) → refusal part (cs ++ ds) ≡ or_else (refusal part cs) (refusal part ds)
@@ -73,17 +90,11 @@ pub last_answers : (part : Part) (cs : List Check) (c : Check) (o : Option Refus
 last_answers part cs c o h e =
     e ∙ sym (refusal-joined part cs (c ∷ []) ∙ ap (λ q. or_else q (refusal part (c ∷ []))) (sym h) ∙ or_else_none (breach part c))
 
--- the entries before the i-th, as the code lends them
-pub fresh_told : {A : Type 0} (alike : A → A → Bool) (xs : List A) (i : ℕ) (x : A) (b : Bool) → b ≡ among alike x (take (i - 0) xs) → fresh alike (take i xs) x ≡ not b
-fresh_told alike xs i x b e =
-    let z : i - 0 ≡ i = omega arith in
-    ap not (sym (e ∙ ap (λ (n : ℕ). among alike x (take n xs)) z))
-
 pub then_answers : (part : Part) (cs ds : List Check) (o : Option Refusal) → None ≡ refusal part cs → o ≡ refusal part ds → o ≡ refusal part (cs ++ ds)
 then_answers part cs ds o h e = e ∙ sym (refusal-joined part cs ds ∙ ap (λ q. or_else q (refusal part ds)) (sym h))
 
 -- the identity before, one entry on
-last_added : {A : Type 0} (of : A → List ℕ) (before : List A) (x : A) → last_identity of (before ++ x ∷ []) ≡ of x
+pub last_added : {A : Type 0} (of : A → List ℕ) (before : List A) (x : A) → last_identity of (before ++ x ∷ []) ≡ of x
 last_added of [] x = refl
 last_added of (y ∷ []) x = refl
 last_added of (y ∷ z ∷ zs) x = last_added of (z ∷ zs) x

@@ -5,6 +5,6 @@ pub mod Identities
 pub mod Names
 pub mod Refusals
 pub mod Turning
-pub mod Tests
+pub mod Closures
 pub mod Rows
 pub mod Words

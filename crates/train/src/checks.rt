@@ -7,7 +7,7 @@ ghost use Rattle.train.specs.Names.{well_formed};
 ghost use Rattle.train.specs.Refusals.{refusal_of, breach, must, each, alone, among, fresh, by};
 ghost use Rattle.train.specs.declared.facing.Facing.{Facing};
 ghost use Rattle.train.specs.declared.refusal.Reason.TheVariants.{IdentityOrder, NameForm, UnknownFacing, Repeated};
-ghost use Rattle.train.specs.Tests.{Tests};
+ghost use Rattle.train.specs.Closures.{Gives};
 ghost use Rattle.std.specs.Str.{bytes_eq};
 
 use crate::entries::{Coupled, Vehicle};
@@ -91,7 +91,7 @@ pub fn each_passes<T, F: Fn(&T) -> bool>(
     passes: F,
 ) -> Result<(), Refusal>
     requires { F.IsAlwaysCallable passes }
-    ensures { (test : T → Bool) → Tests F.Fn passes test → refusal_of result ≡ breach part (each (alone test) reason entries.now) }
+    ensures { (test : T → Bool) → Gives F.Fn passes test → refusal_of result ≡ breach part (each (alone test) reason entries.now) }
 {
     for (i, x) in entries.iter().enumerate() {
         if !passes(x) {

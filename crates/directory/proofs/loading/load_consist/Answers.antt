@@ -1,6 +1,6 @@
 use Rattle.std.proofs.Common.{◌≡◌, ◌+◌, ◌<◌, length, refl, sym, ◌∙◌, subst, arith}
 use Rattle.fleet.specs.Fleets.{vehicles_of}
-use Rattle.directory.proofs.Loads.{Loading, loading_none, loading_more, loading_room, loading_all, loading_end, asked, few_vehicles}
+use Rattle.directory.proofs.Loads.{Loading, loading_more, loading_room, asked}
 use Rattle.directory.proofs.loading.load_consist.Goals as goal
 
 pub push-requires : goal.push-requires

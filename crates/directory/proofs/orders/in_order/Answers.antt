@@ -2,7 +2,7 @@ use Rattle.std.proofs.Common.{length, sym, ◌∙◌, arith}
 use Rattle.std.proofs.lemmas.Bool.Decides.{nat_tests}
 use Rattle.std.proofs.lemmas.List.{length-map}
 use Rattle.directory.specs.Operation.{names}
-use Rattle.directory.proofs.InOrder.{walk_on, walk_off, walk_end, some_order}
+use Rattle.directory.proofs.InOrder.{walk_on, walk_end, some_order}
 use Rattle.directory.proofs.orders.in_order.Goals as goal
 
 pub loop-name-preserved : goal.loop-name-preserved

@@ -2,7 +2,7 @@ use Rattle.std.proofs.Common.{◌≡◌, ◌*◌, length, refl, ap, ◌∙◌, a
 use Rattle.std.proofs.lemmas.List.{take_all}
 use Rattle.directory.specs.Sections.{rows}
 use Rattle.directory.proofs.Behind.{lend, same_text}
-use Rattle.directory.proofs.Sections.{rows_more, times_more, row_room}
+use Rattle.directory.proofs.Sections.{rows_more, times_more}
 use Rattle.directory.proofs.rows.write_rows.Goals as goal
 
 pub loop-i-preserved : goal.loop-i-preserved

@@ -1,7 +1,7 @@
 use Rattle.std.proofs.Common.{◌+◌, get_or, sym, subst, arith}
 use Rattle.directory.specs.Cars.{no_car}
 use Rattle.directory.specs.Rows.{vehicle_row_of}
-use Rattle.directory.proofs.Runs.{Seating, seating_more, seating_all}
+use Rattle.directory.proofs.Runs.{Seating, seating_more}
 use Rattle.directory.proofs.tables.vehicle_rows.Goals as goal
 
 pub loop-car-preserved : goal.loop-car-preserved

@@ -1,15 +1,23 @@
-use Rattle.std.proofs.Common.{◌≡◌, ◌-◌, length, take, drop, refl, arith, length-take-le}
-use Rattle.fleet.specs.Books.{count_of, vehicle_of}
+use Rattle.std.proofs.Common.{rules, ◌≡◌, ◌+◌, ◌*◌, ◌-◌, ◌∙◌, length, get_or, take, drop, refl, arith, length-take-le}
+use Rattle.fleet.specs.Books.{count_of, total_of, vehicle_of, entries_of, table_of}
 use Rattle.fleet_list.specs.Entries.{head_of}
-use Rattle.fleet_list.proofs.Loads.{loaded, front_rows, entries_at, table_at, total_at, entries_are, table_is, total_is}
+use Rattle.fleet_list.proofs.Loads.{loaded, front_read, total_is, heads_cut, vehicles_cut}
 use Rattle.fleet_list.proofs.book_reader.read_book.Goals as goal
 
 pub returns : goal.returns
 returns c =
     let b = c.args.book.now in
-    let total = total_is b in
-    let heads : length (take (count_of b - 0) (drop 0 c.args.tables.now.heads)) ≡ count_of b - 0 = length-take-le (count_of b - 0) c.args.tables.now.heads (omega (arith, c.requires.few)) in
-    let vehicles : length (take (total_at b - 0) (drop 0 c.args.tables.now.vehicles)) ≡ total_at b - 0 = length-take-le (total_at b - 0) c.args.tables.now.vehicles (omega (arith, total, c.requires.small)) in
-    loaded b (entries_at b) (table_at b) _ _ (count_of b) (total_at b) c.requires refl total (entries_are b) (table_is b)
-    (front_rows 21 (count_of b) _ head_of (entries_at b) c.read_rows.new.table _ (omega (arith, heads)) c.read_rows.ensures)
-    (front_rows 17 (total_at b) _ vehicle_of (table_at b) c.read_rows-2.new.table _ (omega (arith, vehicles)) c.read_rows-2.ensures)
+    let n = count_of b in
+    let entries = c.split_at.result.0.now in
+    let tail = c.split_at.result.1.now in
+    let ee = c.split_at.ensures.front in
+    let et = c.split_at.ensures.back in
+    let m : _ ≡ total_of b = total_is b entries tail c.requires ee et in
+    let hl : length (take (n - 0) (drop 0 c.args.tables.now.heads)) ≡ n - 0 = length-take-le (n - 0) c.args.tables.now.heads (omega (arith, c.requires.few)) in
+    let total = get_or tail 0 0 * 256 + get_or tail 1 0 in
+    let vl : length (take (total - 0) (drop 0 c.args.tables.now.vehicles)) ≡ total - 0 = length-take-le (total - 0) c.args.tables.now.vehicles (omega (arith, c.requires.small, m)) in
+    loaded b _ _ _ _ c.requires refl m
+    (front_read 21 n n _ head_of (entries_of b) c.as_chunks.result.0.now c.read_rows.new.table _ refl (omega (arith, hl)) (c.as_chunks.ensures.front ∙ heads_cut b entries tail c.requires ee et)
+    (c.read_rows.ensures head_of (search rules)))
+    (front_read 17 (total_of b) total _ vehicle_of (table_of b) c.as_chunks-2.result.0.now c.read_rows-2.new.table _ m (omega (arith, vl)) (c.as_chunks-2.ensures.front ∙ vehicles_cut b entries tail c.requires ee et)
+    (c.read_rows-2.ensures vehicle_of (search rules)))

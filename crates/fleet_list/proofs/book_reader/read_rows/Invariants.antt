@@ -1,6 +1,6 @@
-use Rattle.std.proofs.Common.{length}
-use Rattle.fleet_list.proofs.Loads.{Reading}
+use Rattle.std.proofs.Common.{◌≡◌, map, take}
+use Rattle.train.specs.Closures.{Gives}
 use Rattle.fleet_list.proofs.book_reader.read_rows.Given as goal
 
-abbrev pub invariant-loop-slot : goal.invariant-loop-slot
-invariant-loop-slot g l = Reading g.T.FromRow.WIDTH g.T.FromRow.of l.rows l.rest (length l.initial.table) l.slot-index l.table
+abbrev pub invariant-loop-i : goal.invariant-loop-i
+invariant-loop-i g l = (of : _ → _) → Gives g.F.Fn l.form of → take l.i l.table ≡ map of (take l.i l.rows)
