@@ -8,7 +8,7 @@ use Rattle.fleet.specs.Books.{meaning_of}
 use Rattle.fleet.specs.Held.{held}
 use Rattle.fleet.specs.BookMeantLemmas.{book_lawful}
 use Rattle.fleet.specs.Meant.{meant}
-use Rattle.fleet.specs.Sound.{sound_means}
+use Rattle.fleet.specs.Sound.{roster_lawful}
 use Rattle.console.specs.declared.command.Source.{Source}
 use Rattle.console.specs.declared.command.Source.TheVariants as source
 use Rattle.console.specs.declared.desk.Desk.{Desk}
@@ -24,7 +24,7 @@ meaning (Roster r) id = meant r.now id
 
 pub meaning_lawful : (fleet : DeskFleet) (id : Identity) → Lawful (meaning fleet id)
 meaning_lawful (Book b) id = book_lawful b.now id
-meaning_lawful (Roster r) id = sound_means r.now.seats id r.now.sound
+meaning_lawful (Roster r) id = roster_lawful r.now id
 
 -- what the fleet means that a word names at a desk
 abbrev pub meaning_at : Desk → Source → Identity → Option Consist

@@ -1,5 +1,5 @@
 -- What is written from the front on, one part behind another.
-use Rattle.std.proofs.Common.{◌≡◌, ℕ, ◌+◌, ◌-◌, ◌<◌, ◌≤◌, List, [], ◌∷◌, ◌++◌, length, take, drop, set, sym, refl, ap, ◌∙◌, subst, append_assoc, arith}
+use Rattle.std.proofs.Common.{◌≡◌, ℕ, ◌+◌, ◌-◌, ◌≤◌, List, [], ◌++◌, length, take, drop, sym, refl, ap, ◌∙◌, subst, append_assoc, arith}
 use borrow.Rule.Slice.PartMut.{put_mid}
 use Rattle.std.proofs.lemmas.List.{take_at, drop_at, drop-drop, drop_all, length-drop, length-append, take_all, append-nil}
 use Rattle.directory.specs.Written.{Written}
@@ -68,4 +68,3 @@ module _ {A : Type 0} where
   front {a} {xs} {out} {n} w =
       let z : n - 0 ≡ n = omega arith in
       ap (λ k. take k out) z ∙ ap (take n) w.wrote ∙ take_at a (drop n xs) n w.long
-

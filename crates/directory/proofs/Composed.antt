@@ -1,5 +1,5 @@
 -- The tables and the written bytes are the composition; and the checks in their order.
-use Rattle.std.proofs.Common.{◌≡◌, ℕ, zero, suc, ◌+◌, ◌-◌, ◌*◌, ◌<◌, ◌≤◌, Bool, true, false, cond, ◌==◌, leb, List, [], ◌∷◌, ◌++◌, map, length, take, Some, None, Option, sym, refl, ap, ◌∙◌, ap₂, arith}
+use Rattle.std.proofs.Common.{◌≡◌, ℕ, ◌+◌, ◌*◌, ◌<◌, ◌≤◌, Bool, true, false, cond, ◌==◌, leb, List, [], ◌∷◌, ◌++◌, map, length, Some, None, Option, sym, refl, ap, ◌∙◌, ap₂, arith}
 use Rattle.std.proofs.lemmas.List.{length-map}
 use Rattle.std.proofs.lemmas.Bool.{le-leb, lt-leb, cond-true, cond-false}
 use Rattle.train.specs.declared.entries.Coupled.{Coupled}
@@ -16,7 +16,7 @@ use Rattle.directory.specs.declared.rows.TrainRow.{TrainRow}
 use Rattle.directory.specs.declared.rows.ConsistRow.{ConsistRow}
 use Rattle.directory.specs.declared.rows.VehicleRow.{VehicleRow}
 use Rattle.directory.specs.declared.writing.Head.{Head}
-use Rattle.directory.specs.Cars.{train, met, turned_car}
+use Rattle.directory.specs.Cars.{train}
 use Rattle.directory.specs.Operation.{orientation, from_head, operational}
 use Rattle.directory.specs.Composing.{checks, formation_checks, train_checks, order_checks, room_check}
 use Rattle.directory.specs.Rows.{train_row, consist_row, vehicle_row, train_row_of, consist_row_of, vehicle_row_of}
@@ -24,8 +24,6 @@ use Rattle.directory.specs.Sections.{section, firsts, seats, nobody, four, size,
 use Rattle.directory.specs.declared.writing.Status.TheVariants.{Unconfirmed, Confirmed}
 use Rattle.directory.specs.Whole.{whole_of, status_code, standing}
 use Rattle.sc32.specs.Checksum.{checksum}
-use Rattle.directory.specs.Written.{Written}
-use Rattle.directory.proofs.Behind.{front}
 use Rattle.directory.proofs.Runs.{length-seats}
 use Rattle.directory.proofs.Sections.{rows-map}
 

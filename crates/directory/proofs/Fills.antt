@@ -2,11 +2,6 @@
 use Rattle.std.proofs.Common.{◌≡◌, ℕ, ◌+◌, ◌-◌, ◌<◌, ◌≤◌, List, [], ◌∷◌, ◌++◌, map, length, get_or, take, drop, set, sym, refl, ap, ◌∙◌, ap₂, append_assoc, arith}
 use borrow.Rule.Slice.PartMut.{post_of}
 use Rattle.std.proofs.lemmas.List.{take_all, drop_more, map_more, length-map, length-take-le, set-append_right}
-use Rattle.train.specs.declared.entries.Coupled.{Coupled}
-use Rattle.fleet.specs.Fleets.{Meaning}
-use Rattle.directory.specs.declared.rows.TrainRow.{TrainRow}
-use Rattle.directory.specs.Rows.{train_row_of}
-use Rattle.directory.specs.Sections.{counter_of}
 use Rattle.directory.specs.Written.{Written}
 
 module _ {A B : Type 0} (f : A → B) (xs : List A) (before : List B) where
@@ -37,4 +32,3 @@ pub copied : {A : Type 0} (xs before copy : List A) → copy ≡ xs → length x
 copied xs before copy e h =
     let z : length xs - 0 ≡ length xs = omega arith in
     record { wrote = ap₂ (λ a b. a ++ b) e (ap (λ k. drop k before) z); long = refl; fits = h }
-

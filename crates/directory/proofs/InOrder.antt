@@ -1,13 +1,10 @@
 -- A confirmed list walked along the train's names.
-use Rattle.std.proofs.Common.{◌≡◌, ℕ, ◌+◌, ◌<◌, ◌≤◌, Bool, true, false, cond, ◌&&◌, eqb, ltb, List, [], ◌∷◌, map, length, get_or, drop, Some, None, sym, refl, ap, ◌∙◌, ap₂, arith}
-use Rattle.std.proofs.lemmas.List.{drop_more, drop_all, get_or-map, length-map}
+use Rattle.std.proofs.Common.{◌≡◌, ℕ, ◌+◌, ◌<◌, ◌≤◌, Bool, true, false, cond, ◌&&◌, eqb, ltb, List, [], ◌∷◌, length, get_or, drop, Some, None, sym, refl, ap, ◌∙◌, ap₂, arith}
+use Rattle.std.proofs.lemmas.List.{drop_more, drop_all}
 use Rattle.std.proofs.lemmas.Bool.{and_parts, ltb-true, ltb-false, eq-eqb, ne_eqb}
 use Rattle.train.specs.declared.name.Name.{Name}
 use Rattle.train.specs.Identities.{same_name}
 use Rattle.train.specs.Refusals.{among}
-use Rattle.directory.specs.declared.cars.Car.{Car}
-use Rattle.directory.specs.Cars.{no_car}
-use Rattle.directory.specs.Operation.{names, pick, ordered}
 use Rattle.directory.specs.Composing.{struck, same_names, in_order}
 use Rattle.directory.specs.Steps.{next_place}
 
@@ -67,4 +64,3 @@ some_order (n ∷ ns) held h = refl
 module _ (n : Name) (held : List Name) (at : ℕ) (a : true ≡ among same_name n held) where
   pub step_met : true ≡ (ltb at (length held) && same_name n (get_or held at (record { bytes = [] }))) → Some (at + 1) ≡ next_place n held at
   step_met e = ap₂ (λ x y. cond x (cond y (Some (at + 1)) None) (Some at)) a e
-

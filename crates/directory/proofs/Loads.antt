@@ -1,20 +1,18 @@
 -- Laying out the vehicles of a consist and of a formation.
-use Rattle.std.proofs.Common.{◌≡◌, ℕ, zero, suc, sum_by, ◌+◌, ◌-◌, ◌<◌, ◌≤◌, List, [], ◌∷◌, ◌++◌, reverse, length, get_or, take, drop, set, is_some, Some, None, Option, sym, refl, ap, ◌∙◌, ap₂, append_assoc, add-one, arith}
+use Rattle.std.proofs.Common.{◌≡◌, ℕ, zero, suc, sum_by, ◌+◌, ◌<◌, ◌≤◌, List, [], ◌∷◌, ◌++◌, reverse, length, get_or, take, drop, Some, Option, sym, refl, ap, ◌∙◌, append_assoc, add-one, arith}
 use Rattle.std.specs.List.{flat_map, slice_get}
 use Rattle.std.proofs.lemmas.List.Concat.{length-flat_map}
-use Rattle.std.proofs.lemmas.List.{take_more, take_all, drop_more, length-append, length-map, length-reverse, length-take-le, set-append_right, append-nil, take_at, drop_at, take-append-drop}
+use Rattle.std.proofs.lemmas.List.{take_more, length-append, length-map, length-reverse, length-take-le, append-nil, take-append-drop}
 use Rattle.train.specs.declared.identity.Identity.{Identity}
 use Rattle.train.specs.declared.entries.Coupled.{Coupled}
 use Rattle.train.specs.declared.entries.Vehicle.{Vehicle}
 use Rattle.train.specs.declared.facing.Facing.{Facing}
 use Rattle.train.specs.declared.facing.Facing.TheVariants.{NotKnown, Direct, Inverse}
-use Rattle.fleet.specs.Fleets.{Consist, Meaning, Lawful, vehicles_of, vehicle_in, found_in}
+use Rattle.fleet.specs.Fleets.{Consist, Meaning, vehicles_of, vehicle_in}
 use Rattle.bench.specs.declared.claims.Claim.{Claim}
 use Rattle.directory.specs.declared.cars.Car.{Car}
 use Rattle.directory.specs.Cars.{mark, cars, met, stretch, train, turned_car}
 use Rattle.train.specs.Turning.{turned_list}
-use borrow.Rule.Slice.PartMut.{post_of}
-use Rattle.directory.specs.Written.{Written}
 
 pub length-cars : (x : Identity) (claim : Option Claim) (k : ℕ) (vs : List Vehicle) → length (cars x claim k vs) ≡ length vs
 length-cars x claim k [] = refl
@@ -106,4 +104,3 @@ train_room m claims es i d h =
     let two = ap length (sym (train_more m claims es i d h)) ∙ length-append (train m claims (take i es)) (stretch m claims (get_or es i d)) in
     let three = length-stretch m claims (get_or es i d) in
     omega arith
-

@@ -1,7 +1,7 @@
 -- Runs of cars of one consist, collected along the train.
-use Rattle.std.proofs.Common.{◌≡◌, ℕ, suc, ◌+◌, ◌-◌, ◌<◌, ◌≤◌, Bool, true, false, cond, List, [], ◌∷◌, ◌++◌, map, length, get_or, drop, set, sym, refl, ap, ◌∙◌, subst, ap₂, append_assoc, arith}
+use Rattle.std.proofs.Common.{◌≡◌, ℕ, suc, ◌+◌, ◌<◌, ◌≤◌, Bool, true, false, cond, List, [], ◌∷◌, ◌++◌, map, length, get_or, drop, sym, refl, ap, ◌∙◌, ap₂, append_assoc, arith}
 use Rattle.std.specs.Str.{bytes_eq}
-use Rattle.std.proofs.lemmas.List.{drop_more, drop_all, append-nil, length_push}
+use Rattle.std.proofs.lemmas.List.{drop_more, length_push}
 use Rattle.std.proofs.lemmas.Slice.Eq.{bytes_eq-Decides}
 use Rattle.train.specs.declared.identity.Identity.{Identity}
 use Rattle.train.specs.Identities.{same_identity}
@@ -68,4 +68,3 @@ module _ {A : Type 0} (g : Seat → A) (cs : List Car) {i run : ℕ} {prior : Li
           let n : next ≡ run + 1 = en ∙ ap (λ b. cond b run (run + 1)) e in
           ap (λ k. record { car = get_or cs i d; run = k } ∷ seats k (get_or cs i d).consist (drop (i + 1) cs)) n
           ∙ sym (ap (λ b. cond b (record { car = get_or cs i d; run = run } ∷ seats run (ident prior) (drop (i + 1) cs)) (record { car = get_or cs i d; run = run + 1 } ∷ seats (run + 1) (get_or cs i d).consist (drop (i + 1) cs))) e)
-

@@ -1,8 +1,7 @@
 -- Rows one behind another.
-use Rattle.std.proofs.Common.{◌≡◌, ℕ, suc, ◌+◌, ◌-◌, ◌*◌, ◌<◌, ◌≤◌, List, [], ◌∷◌, ◌++◌, map, length, get_or, take, drop, sym, refl, ap, ◌∙◌, append_assoc, mul-le-mul_left, mul-one, mul-add, arith}
+use Rattle.std.proofs.Common.{◌≡◌, ℕ, suc, ◌+◌, ◌*◌, ◌<◌, List, [], ◌∷◌, ◌++◌, map, length, get_or, take, sym, refl, ap, ◌∙◌, append_assoc, mul-one, mul-add, arith}
 use Rattle.std.proofs.lemmas.List.{take_more, append-nil, length-take-le}
 use Rattle.directory.specs.Sections.{rows}
-use Rattle.directory.specs.Written.{Written}
 
 module _ {A : Type 0} (row : ℕ → A → List ℕ) where
   pub rows_push : (n : ℕ) (xs : List A) (x : A) → rows row n (xs ++ x ∷ []) ≡ rows row n xs ++ row (n + length xs) x

@@ -1,11 +1,10 @@
 -- Rows compared without one byte of each.
-use Rattle.std.proofs.Common.{◌≡◌, ℕ, zero, suc, ◌+◌, ◌-◌, ◌*◌, ◌<◌, ◌≤◌, Bool, true, false, ◌&&◌, eqb, List, [], ◌∷◌, ◌++◌, length, get_or, take, drop, sym, refl, ap, ◌∙◌, ap₂, mul-le-mul_right, mul-le-mul_left, mul-zero, mul-suc, arith, length-append}
+use Rattle.std.proofs.Common.{◌≡◌, ℕ, zero, suc, ◌+◌, ◌*◌, ◌≤◌, Bool, true, false, ◌&&◌, eqb, List, [], ◌∷◌, ◌++◌, length, get_or, take, drop, sym, refl, ap, ◌∙◌, ap₂, mul-zero, mul-suc, arith, length-append}
 use mathlib.Core.Bool.{and_assoc}
 use Rattle.std.specs.Str.{bytes_eq}
 use Rattle.std.proofs.lemmas.List.{drop-drop, length-drop, length-take-le}
 use Rattle.std.proofs.lemmas.Bool.{eqb-true}
 use Rattle.directory.specs.Part.{behind, past, thinned, thin_section, consists, vehicles, leading_part, Section, Sections}
-use Rattle.directory.proofs.Sections.{times_more}
 
 pub behind_drop : (k n : ℕ) (bs : List ℕ) → behind k n bs ≡ drop (k * n) bs
 behind_drop k zero bs = ap (λ z. drop z bs) (sym (mul-zero k))

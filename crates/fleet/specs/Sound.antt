@@ -13,12 +13,14 @@ use Rattle.train.specs.Names.{well_formed}
 use Rattle.train.specs.Octets.{zeros}
 use Rattle.train.specs.Refusals.{refusal, must, each, alone, fresh, by}
 use Rattle.train.proofs.Names.{name_rule}
+use Rattle.fleet.specs.declared.roster.Roster.{Roster as Announced}
 use Rattle.fleet.specs.declared.roster.Seat.{Seat}
 use Rattle.fleet.specs.Fleets.{Consist, IsVehicle, IsConsist, Lawful}
 use Rattle.fleet.specs.Rosters.{consist_checks}
 use Rattle.fleet.specs.Seats.{is_here, consist_in, meaning_in, sound_seat, sound_seats}
 use Rattle.fleet.specs.Seeks.{find}
 use Rattle.fleet.specs.Heads.{never, first_met}
+use Rattle.fleet.specs.Meant.{meant}
 use Rattle.fleet.specs.Kept.{alone_all, fresh_pairs}
 use Rattle.fleet.specs.Means.{find_ge, none_go}
 use Rattle.fleet.specs.Readings.{counter_some, size_fits}
@@ -86,6 +88,10 @@ sound_means [] id h = tt
 sound_means (s ∷ ss) id h =
     let t = and_parts (sound_seat s) (sound_seats ss) h in
     meant_go id s (meaning_in ss id) (is_here id s) t.0 (sound_means ss id t.1)
+
+-- what a roster means of a consist is what a consist may be
+pub roster_lawful : (r : Announced) (id : Identity) → Lawful (meant r id)
+roster_lawful r id = sound_means r.seats.items id r.sound
 
 -- a seat for a consist that passes its checks
 pub new_sound : (q : Seat) (vs : List Vehicle) → q.vehicles.items ≡ vs → q.counter ≤ 4294967295 → None ≡ refusal Roster (consist_checks q.identity q.counter vs) → sound_seat q ≡ true

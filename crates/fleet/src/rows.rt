@@ -37,5 +37,5 @@ pub(crate) fn is_counted(row: &ConsistRow) -> bool
 pub(crate) fn is_sized(row: &ConsistRow) -> bool
     ensures { result ≡ sized row.now }
 {
-    matches!(row[20], 1..=32)
+    matches!(size_of(row), 1..=32)
 }

@@ -1,18 +1,14 @@
 -- Vehicles behind one another.
-use Rattle.std.proofs.Common.{◌≡◌, ℕ, suc, ◌+◌, ◌<◌, ◌≤◌, ◌⊎◌, List, [], ◌∷◌, ◌++◌, length, take, set, Ok, sym, refl, ap, ◌∙◌, subst, inl, inr, append_assoc, arith}
+use Rattle.std.proofs.Common.{◌≡◌, ℕ, suc, ◌+◌, ◌<◌, ◌≤◌, ◌⊎◌, List, [], ◌∷◌, ◌++◌, length, refl, ap, inl, inr, append_assoc, arith}
 use Rattle.std.specs.List.{flat_map}
-use Rattle.std.proofs.lemmas.List.{take_more_set}
 use Rattle.train.proofs.Bytes.{nowhere}
 use Rattle.train.specs.Names.{IsName}
 use Rattle.train.specs.declared.entries.Vehicle.{Vehicle}
 use Rattle.train.specs.declared.facing.Facing.TheVariants.{NotKnown, Direct, Inverse}
-use Rattle.fleet_list.specs.declared.cursor.Cursor.{Cursor}
-use Rattle.fleet_list.specs.Cursors.{Takes}
 use Rattle.fleet_list.specs.Forms.{Front}
 use Rattle.fleet_list.specs.Parts.{name_text, Known, GoodCar, car, spaced, others, Few, car_of, cars}
 use Rattle.fleet_list.specs.Texts.{sign}
 use Rattle.fleet_list.proofs.Pads.{front_named}
-use Rattle.fleet_list.proofs.Runs.{Along, along_more}
 use Rattle.fleet_list.proofs.Seq.{First, front_both}
 use Rattle.fleet_list.proofs.Series.{Many, Apart, front_many}
 
@@ -45,11 +41,6 @@ cars_push (x ∷ vs) v = ap (λ z. car_of x ∷ z) (cars_push vs v)
 pub length-cars : (vs : List Vehicle) → length (cars vs) ≡ length vs
 length-cars [] = refl
 length-cars (v ∷ vs) = ap suc (length-cars vs)
-
--- one vehicle more in the room
-pub cars_more : {c d e : Cursor} (room : List Vehicle) {n : ℕ} {v : Vehicle} → n < length room → Along GoodCar spaced c d (cars (take n room)) → Takes GoodCar spaced car_of d e (Ok v) → Along GoodCar spaced c e (cars (take (n + 1) (set room n v)))
-cars_more {c} {d} {e} room {n} {v} l a t =
-    subst (Along GoodCar spaced c e) (sym (ap cars (take_more_set room n v l) ∙ cars_push (take n room) v)) (along_more GoodCar spaced a t)
 
 -- the byte with which a line goes on behind n vehicles
 abbrev pub Next : ℕ → ℕ → Type 0

@@ -1,13 +1,13 @@
 -- What the loops of the checks need, over a part of each entry of a list.
-use Rattle.std.proofs.Common.{◌≡◌, ℕ, ◌+◌, ◌<◌, ◌≤◌, true, false, List, [], ◌∷◌, ◌++◌, map, length, get_or, take, drop, Some, None, sym, refl, ap, ◌∙◌, arith, length-drop}
-use Rattle.std.proofs.lemmas.List.{get_or-map, take_more, drop_more}
+use Rattle.std.proofs.Common.{◌≡◌, ℕ, ◌+◌, ◌<◌, true, false, List, [], ◌∷◌, map, length, get_or, take, drop, Some, None, sym, refl, ap, ◌∙◌, arith, length-drop}
+use Rattle.std.proofs.lemmas.List.{get_or-map, drop_more}
 use Rattle.train.specs.declared.refusal.Part.{Part}
 use Rattle.train.specs.declared.refusal.Place.TheVariants.{At}
 use Rattle.train.specs.declared.refusal.Reason.{Reason}
 use Rattle.train.specs.declared.refusal.Reason.TheVariants.{IdentityOrder}
 use Rattle.train.specs.declared.refusal.Refusal.{Refusal}
 use Rattle.train.specs.Refusals.{Check, Rule, each, each_behind, breach, refusal, or_else}
-use Rattle.train.proofs.Rules.{each_past, each_here, each_all, each-map}
+use Rattle.train.proofs.Rules.{each_past, each_here, each-map}
 use Rattle.train.specs.Identities.{last_identity, rises, ascending}
 use Rattle.fleet_list.specs.declared.tables.Head.{Head}
 use Rattle.fleet_list.specs.Entries.{head_identity}
@@ -22,9 +22,6 @@ module _ {A B : Type 0} (rule : Rule A) (reason : Reason) (f : B → A) (ys : Li
   pub part_here : (part : Part) (d : B) (e x : A) → x ≡ f (get_or ys i d) → i < length ys → rule (take i (map f ys)) x ≡ false
       → breach part (each_behind rule reason (take i (map f ys)) (drop i (map f ys))) ≡ Some (record { part = part; reason = reason; place = At (i + 1) })
   part_here part d e x is l r = each_here rule reason (map f ys) i part x e (is ∙ sym (get_or-map f ys i d e l)) (omega (arith, length-map f ys)) r
-
-  pub part_all : (part : Part) → length ys ≤ i → breach part (each_behind rule reason (take i (map f ys)) (drop i (map f ys))) ≡ None
-  part_all part l = each_all rule reason (map f ys) i part (omega (arith, length-map f ys))
 
 -- identities rise as the heads that they are of
 last_read : (hs : List Head) → last_identity head_identity hs ≡ last_identity (λ id. id) (map head_identity hs)
@@ -48,6 +45,3 @@ stands_at es k x ys q =
     let l : k < length es = omega (arith, ap length q, length-drop k es) in
     let d = drop_more es k x l in
     (l, cc, cc)
-
-pub stands_none : {V : Type 0} (es : List V) (k : ℕ) → drop k es ≡ [] → length es ≤ k
-stands_none es k q = omega (arith, ap length q, length-drop k es)

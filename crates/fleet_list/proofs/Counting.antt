@@ -5,7 +5,7 @@ use Rattle.fleet_list.specs.declared.cursor.Cursor.{Cursor}
 use Rattle.fleet_list.specs.Cursors.{Stays, Takes, TakesOne, Exactly}
 use Rattle.fleet_list.specs.Counters.{digit, turn_of, Counter, counter_text}
 use Rattle.fleet_list.specs.Forms.{Refused, fault}
-use Rattle.fleet_list.specs.Machine.{refuse, next, done}
+use Rattle.fleet_list.specs.Machine.{refuse, done}
 use Rattle.fleet_list.specs.Parts.{same}
 use Rattle.fleet_list.proofs.Cursors.{stays_on}
 use Rattle.fleet_list.proofs.Digits.{accepted_printed, refused_breaks}
@@ -17,19 +17,9 @@ pub record Counting (c d : Cursor) (v : ℕ) : Type 0 where
   pub stays : Stays c d
   pub run_is : run digit 0 c.at (drop c.at c.text.now) ≡ run digit v d.at (drop d.at d.text.now)
 
-pub counting_none : (c : Cursor) → Counting c c 0
-counting_none c = record { stays = record { text = refl; line = refl }; run_is = refl }
-
 -- the number that the digit b makes behind v, or none
 abbrev pub Goes : ℕ → ℕ → Option ℕ → Type 0
 Goes v b o = (b ≡ 32 → v ≡ 0) → turn_of o ≡ digit v b
-
-pub counting_more : {c d e : Cursor} {v w : ℕ} → (d.at < length d.text.now → get_or d.text.now d.at 0 ≡ 32 → v ≡ 0) → Counting c d v → TakesOne (Goes v) d e (Ok w) → Counting c e w
-counting_more {c} {d} {e} {v} {w} h a t =
-    let l = t.answer.0 in
-    let s : run digit v d.at (drop d.at d.text.now) ≡ run digit w (d.at + 1) (drop (d.at + 1) d.text.now) = step_is digit v d.at d.text.now (next w) l (t.answer.1 (h l)) in
-    let q : run digit w (d.at + 1) (drop (d.at + 1) d.text.now) ≡ run digit w e.at (drop e.at e.text.now) = ap (λ i. run digit w i (drop i d.text.now)) (sym t.answer.2) ∙ ap (λ z. run digit w e.at (drop e.at z)) (sym t.stays.text) in
-    record { stays = stays_on a.stays t.stays; run_is = a.run_is ∙ s ∙ q }
 
 refused : (c : Cursor) (at : ℕ) (x : Refusal) → x ≡ fault c.line (at + 1) → run digit 0 c.at (drop c.at c.text.now) ≡ bad at → Refused Counter counter_text c.text.now c.at c.line x
 refused c at x h e = let r = refused_breaks c.at (drop c.at c.text.now) at e in record { k = r.0; is = at_place c.line x h (omega (arith, r.1)); breaks = r.2 }

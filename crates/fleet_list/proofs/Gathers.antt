@@ -6,10 +6,6 @@ use Rattle.fleet_list.specs.declared.tables.Head.{Head}
 use Rattle.fleet.specs.Books.{Item, vehicles_in}
 use Rattle.fleet_list.specs.Tables.{item_of, gathered, counts}
 
--- what stands past the end of a table
-abbrev pub no_head : Head
-no_head = record { identity = record { bytes = [] }; counter = 0; count = 0 }
-
 pub counts_push : (hs : List Head) (h : Head) → counts (hs ++ h ∷ []) ≡ counts hs + h.count
 counts_push [] h = omega arith
 counts_push (x ∷ hs) h = omega (arith, counts_push hs h)

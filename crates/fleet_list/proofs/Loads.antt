@@ -1,7 +1,6 @@
 -- The rows of a book in tables, and the fleet that the tables then hold.
-use Rattle.std.proofs.Common.{◌≡◌, ℕ, zero, suc, ◌+◌, ◌-◌, ◌*◌, ◌/◌, ◌<◌, ◌≤◌, List, [], ◌∷◌, ◌++◌, map, length, get_or, take, drop, set, sym, refl, ap, ◌∙◌, subst, ap₂, append_assoc, append-nil, zero-add, arith, length-drop, length-set, length-take-le}
-use Rattle.std.proofs.Math.Nat.{mul-suc}
-use Rattle.std.proofs.lemmas.List.{take_more_set, take_all, take_at, take-map, drop-map, take_rest}
+use Rattle.std.proofs.Common.{◌≡◌, ℕ, ◌+◌, ◌-◌, ◌*◌, ◌/◌, List, [], ◌∷◌, ◌++◌, map, length, get_or, take, drop, sym, refl, ap, ◌∙◌, ap₂, arith, length-drop, length-take-le}
+use Rattle.std.proofs.lemmas.List.{take_all, take_at, take-map, drop-map, take_rest}
 use Rattle.train.specs.declared.entries.Vehicle.{Vehicle}
 use Rattle.fleet.specs.Books.{listed, vehicle_of, count_of, total_of, entries_of, tail_of, table_of, consist_rows, vehicle_rows}
 use Rattle.fleet.specs.Rows.{rows, size_of, sizes}

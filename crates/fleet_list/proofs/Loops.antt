@@ -1,10 +1,10 @@
 -- Texts of values written one behind another.
-use Rattle.std.proofs.Common.{◌≡◌, ℕ, ◌+◌, ◌-◌, ◌<◌, ◌≤◌, List, [], ◌∷◌, ◌++◌, length, get_or, take, drop, sym, refl, ap, ◌∙◌, subst, append_assoc, append-nil, arith, length-append, length-drop}
+use Rattle.std.proofs.Common.{◌≡◌, ℕ, ◌+◌, ◌-◌, ◌<◌, ◌≤◌, List, [], ◌∷◌, ◌++◌, length, get_or, take, drop, sym, ap, ◌∙◌, subst, append_assoc, arith, length-append, length-drop}
 use borrow.Rule.Slice.PartMut.{put_mid}
 use Rattle.std.specs.List.{flat_map}
-use Rattle.std.proofs.lemmas.List.{flat_map_more, take_rest, drop_more, drop_all}
+use Rattle.std.proofs.lemmas.List.{flat_map_more, take_rest, drop_more}
 use Rattle.fleet_list.specs.Writes.{Written}
-use Rattle.fleet_list.proofs.Behind.{lend, same_text, same_length, written_none}
+use Rattle.fleet_list.proofs.Behind.{lend, same_text}
 
 -- all but the rest are written
 pub record Writing {V : Type 0} (f : V → List ℕ) (all rest : List V) (at : ℕ) (before out : List ℕ) : Type 0 where
@@ -12,9 +12,6 @@ pub record Writing {V : Type 0} (f : V → List ℕ) (all rest : List V) (at : �
   pub split : all ≡ done ++ rest
   pub wrote : Written (flat_map f done) before at out
   pub fits : at + length (flat_map f rest) ≤ length before
-
-pub writing_none : {V : Type 0} (f : V → List ℕ) (all : List V) (before : List ℕ) → length (flat_map f all) ≤ length before → Writing f all all 0 before before
-writing_none f all before l = record { done = []; split = refl; wrote = written_none before; fits = omega arith }
 
 -- the next value
 pub writing_at : {V : Type 0} (f : V → List ℕ) {all rest next : List V} {at : ℕ} {before out : List ℕ} → rest ≡ next → Writing f all rest at before out → Writing f all next at before out
@@ -24,10 +21,6 @@ pub writing_next : {V : Type 0} (f : V → List ℕ) {all : List V} (es : List V
 writing_next f es {i} {x} e l w = writing_at f (drop_more es i x l ∙ ap (λ z. z ∷ drop (i + 1) es) (sym e)) w
 
 module _ {V : Type 0} (f : V → List ℕ) {all : List V} {rest : List V} {x : V} {at : ℕ} {before out : List ℕ} (w : Writing f all (x ∷ rest) at before out) where
-  -- the next value fits into what is left
-  pub writing_room : at + length (f x) ≤ length out
-  writing_room = omega (arith, w.fits, length-append (f x) (flat_map f rest), same_length w.wrote)
-
   pub writing_more : {last : List ℕ} {m k : ℕ} → Written (f x) (take k (drop at out)) m last → k ≡ length out - at → Writing f all rest (at + m) before (put_mid at k out last)
   writing_more {last} {m} {k} g e = record {
     done = w.done ++ x ∷ [];
@@ -35,13 +28,6 @@ module _ {V : Type 0} (f : V → List ℕ) {all : List V} {rest : List V} {x : V
     wrote = same_text (flat_map_more f [] w.done x) (lend w.wrote g e);
     fits = omega (arith, w.fits, length-append (f x) (flat_map f rest), g.long);
   }
-
-pub writing_all : {V : Type 0} (f : V → List ℕ) {all : List V} {at : ℕ} {before out : List ℕ} → Writing f all [] at before out → Written (flat_map f all) before at out
-writing_all f w = same_text (ap (flat_map f) (sym (w.split ∙ append-nil w.done))) w.wrote
-
--- behind the last value of a slice
-pub writing_end : {V : Type 0} (f : V → List ℕ) {all : List V} (es : List V) {i at : ℕ} {before out : List ℕ} → length es ≤ i → Writing f all (drop i es) at before out → Written (flat_map f all) before at out
-writing_end f {all} es {i} {at} {before} {out} l w = writing_all f (subst (λ z. Writing f all z at before out) (drop_all i es l) w)
 
 -- `out[at..]` as it is lent
 pub tail_room : (out : List ℕ) (at n : ℕ) → at + n ≤ length out → n ≤ length (take (length out - at) (drop at out))

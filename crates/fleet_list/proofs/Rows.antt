@@ -1,22 +1,19 @@
 -- Lines one behind another, as they go into the tables.
-use Rattle.std.proofs.Common.{◌≡◌, ℕ, ◌+◌, ◌<◌, ◌≤◌, min, List, [], ◌∷◌, ◌++◌, length, take, drop, set, decimal, Ok, Err, sym, refl, ap, ◌∙◌, subst, append_assoc, append-nil, arith, length-append, length-take-le}
+use Rattle.std.proofs.Common.{◌≡◌, ℕ, ◌+◌, ◌<◌, ◌≤◌, min, List, [], ◌∷◌, ◌++◌, length, take, drop, set, decimal, Ok, sym, refl, ap, ◌∙◌, subst, append_assoc, arith, length-append, length-take-le}
 use lib.Seq.{take-append-le}
 use borrow.Rule.Slice.PartMut.{put_mid, post_of}
 use Rattle.std.specs.List.{flat_map, AllByRecursion}
 use Rattle.std.proofs.lemmas.List.{take_more_set, flat_map_more, take_at, drop_at}
 use Rattle.train.specs.declared.entries.Vehicle.{Vehicle}
-use Rattle.train.specs.declared.refusal.Refusal.{Refusal}
 use Rattle.fleet_list.specs.declared.tables.Head.{Head}
 use Rattle.fleet.specs.Books.{Item, vehicles_in}
 use Rattle.fleet_list.specs.declared.cursor.Cursor.{Cursor}
 use Rattle.fleet_list.specs.Cursors.{Takes}
-use Rattle.fleet_list.specs.Forms.{Breaks, fault}
 use Rattle.fleet_list.specs.Texts.{byte_text, vehicle_text, quoted, sign}
 use Rattle.fleet_list.specs.Lists.{IsLine, line_text, list_text}
-use Rattle.fleet_list.specs.Readings.{Broken, Held, Listed}
+use Rattle.fleet_list.specs.Readings.{Held}
 use Rattle.fleet_list.specs.Tables.{item_of, gathered, counts}
 use Rattle.fleet_list.proofs.Gathers.{counts_push, gathered_push, gathered_front, vehicles_push}
-use Rattle.fleet_list.proofs.Seq.{at_place}
 use Rattle.fleet_list.proofs.Series.{all_push}
 
 -- lines read so far; the cursor begins the next
@@ -31,20 +28,6 @@ pub record Passed (t : List ℕ) (c : Cursor) (heads : List Head) (vehicles : Li
   pub short : lines + length c.text.now ≤ length t
   pub small : total + length c.text.now ≤ length t
   pub held : lines ≤ 200 → total ≤ 2000 → Held whole heads vehicles lines total
-
-pub passed_none : (t : List ℕ) (c : Cursor) (heads : List Head) (vehicles : List Vehicle) → c.text.now ≡ t → c.at ≡ 0 → c.line ≡ 1 → Passed t c heads vehicles 0 0
-passed_none t c heads vehicles e a l = record {
-  whole = [];
-  good = tt;
-  count = refl;
-  sum = refl;
-  here = sym e;
-  start = a;
-  line = omega arith;
-  short = omega (arith, ap length e);
-  small = omega (arith, ap length e);
-  held = λ l m. record { items = refl; sum = refl };
-}
 
 vehicles_long : (vs : List Vehicle) → length vs ≤ length (flat_map vehicle_text vs)
 vehicles_long [] = omega arith
@@ -112,32 +95,6 @@ passed_more t c d e heads vehicles last lines total slot from k h es ef g lh lv 
       held = λ a b. held_on g.whole heads vehicles last lines total slot from k h es ef lh lv n a b (g.held (omega arith) (omega arith));
     }
 
--- a line is some bytes long
-pub line_past : {c d : Cursor} {h : Head} {last : List Vehicle} → Takes IsLine line_text (λ h. item_of h last) c d (Ok h) → 0 < d.at
-line_past {c} {d} {h} {last} r = omega (arith, line_long (item_of h last), r.answer.long)
-
-pub passed_broken : (t : List ℕ) (c d : Cursor) (heads : List Head) (vehicles last : List Vehicle) (lines total : ℕ) (f : Refusal) → Passed t c heads vehicles lines total → 0 < length c.text.now → Takes IsLine line_text (λ h. item_of h last) c d (Err f) → Broken t f
-passed_broken t c d heads vehicles last lines total f g l r = record {
-  whole = g.whole;
-  good = g.good;
-  rest = c.text.now;
-  k = r.answer.k;
-  here = g.here;
-  some = l;
-  breaks = subst (λ z. Breaks IsLine line_text z r.answer.k) (ap (λ j. drop j c.text.now) g.start) r.answer.breaks;
-  is = at_place c.line f r.answer.is (omega (arith, g.start)) ∙ ap (λ n. fault n (r.answer.k + 1)) (omega (arith, g.line, g.count));
-}
-
 empty : (t : List ℕ) → length t ≤ 0 → t ≡ []
 empty [] l = refl
 empty (x ∷ t) l = absurd (omega arith)
-
-pub passed_all : (t : List ℕ) (c : Cursor) (heads : List Head) (vehicles : List Vehicle) (lines total : ℕ) → Passed t c heads vehicles lines total → length c.text.now ≤ 0 → Listed t heads vehicles lines total
-passed_all t c heads vehicles lines total g l = record {
-  whole = g.whole;
-  good = g.good;
-  is = g.here ∙ ap (λ z. list_text g.whole ++ z) (empty c.text.now l) ∙ append-nil (list_text g.whole);
-  count = g.count;
-  sum = g.sum;
-  held = g.held;
-}

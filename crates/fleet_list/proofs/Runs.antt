@@ -6,7 +6,7 @@ use Rattle.train.specs.declared.refusal.Refusal.{Refusal}
 use Rattle.fleet_list.specs.declared.cursor.Cursor.{Cursor}
 use Rattle.fleet_list.specs.Cursors.{Stays, Takes, TakesOne, Exactly}
 use Rattle.fleet_list.specs.Forms.{Breaks, Front, Refused}
-use Rattle.fleet_list.proofs.Seq.{First, Begun, begun_none, begun_more, begun_read, begun_byte, reads_begun, refused_behind, refused_here}
+use Rattle.fleet_list.proofs.Seq.{First, Begun, begun_more, begun_read, begun_byte, reads_begun, refused_behind, refused_here}
 use Rattle.fleet_list.proofs.Cursors.{stays_on, reads_at, refused_at, no_byte}
 use Rattle.fleet_list.proofs.Series.{Many, ended, Apart, all_push, item_breaks, past}
 
@@ -15,9 +15,6 @@ pub record Along {V : Type 0} (G : V → Type 0) (f : V → List ℕ) (c d : Cur
   pub stays : Stays c d
   pub good : AllByRecursion G vs
   pub begun : Begun c.text.now c.at (flat_map f vs) d.at
-
-pub along_none : {V : Type 0} (G : V → Type 0) (f : V → List ℕ) (c : Cursor) → Along G f c c []
-along_none G f c = record { stays = record { text = refl; line = refl }; good = tt; begun = begun_none c.text.now c.at c.within }
 
 pub along_more : {V R : Type 0} (G : V → Type 0) (f : V → List ℕ) {of : R → V} {c d e : Cursor} {vs : List V} {r : R} → Along G f c d vs → Takes G f of d e (Ok r) → Along G f c e (vs ++ of r ∷ [])
 along_more G f {of} {c} {d} {e} {vs} {r} a t = record {

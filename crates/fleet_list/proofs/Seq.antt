@@ -153,9 +153,6 @@ pub record Begun (t : List ℕ) (from : ℕ) (p : List ℕ) (at : ℕ) : Type 0 
   pub long : at ≡ from + length p
   pub within : at ≤ length t
 
-pub begun_none : (t : List ℕ) (from : ℕ) → from ≤ length t → Begun t from [] from
-begun_none t from l = record { here = refl; long = omega arith; within = l }
-
 pub begun_more : (t : List ℕ) (from : ℕ) (p : List ℕ) (at : ℕ) (q : List ℕ) (end : ℕ) → Begun t from p at → Begun t at q end → Begun t from (p ++ q) end
 begun_more t from p at q end a b = record { here = a.here ∙ ap (λ z. p ++ z) b.here ∙ sym (append_assoc p q (drop end t)); long = omega (arith, a.long, b.long, length-append p q); within = b.within }
 

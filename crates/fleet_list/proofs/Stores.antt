@@ -65,20 +65,9 @@ at_none hs vs room need r e n l = past_apart hs vs room r e ∙ ap (λ z. refusa
 
 -- too many lines, too many vehicles, or neither
 
-pub at_lines : (is : List Item) (room : ℕ) → 200 < length is → refusal Text (list_checks is room) ≡ Some (record { part = Text; reason = ConsistCount; place = At 0 })
-at_lines is room l =
-    unmet Text (must (leb (length is) 200) ConsistCount) (must (leb (length (vehicles_in is)) 2000) VehicleCount ∷ line_checks is room) (record { part = Text; reason = ConsistCount; place = At 0 })
-    (let e = lt-leb (length is) 200 l in simp e)
-
 past_lines : (is : List Item) (room : ℕ) → length is ≤ 200 → refusal Text (list_checks is room) ≡ refusal Text (must (leb (length (vehicles_in is)) 2000) VehicleCount ∷ line_checks is room)
 past_lines is room l =
     met Text (must (leb (length is) 200) ConsistCount) (must (leb (length (vehicles_in is)) 2000) VehicleCount ∷ line_checks is room) (let e = le-leb (length is) 200 l in simp e)
-
-pub at_vehicles : (is : List Item) (room : ℕ) → length is ≤ 200 → 2000 < length (vehicles_in is) → refusal Text (list_checks is room) ≡ Some (record { part = Text; reason = VehicleCount; place = At 0 })
-at_vehicles is room l m =
-    past_lines is room l
-    ∙ unmet Text (must (leb (length (vehicles_in is)) 2000) VehicleCount) (line_checks is room) (record { part = Text; reason = VehicleCount; place = At 0 })
-    (let e = lt-leb (length (vehicles_in is)) 2000 m in simp e)
 
 pub past_vehicles : (is : List Item) (room : ℕ) → length is ≤ 200 → length (vehicles_in is) ≤ 2000 → refusal Text (list_checks is room) ≡ refusal Text (line_checks is room)
 past_vehicles is room l m =

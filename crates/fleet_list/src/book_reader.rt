@@ -28,7 +28,11 @@ pub fn read_book(book: &[u8], tables: &mut Tables)
     let (heads, _) = entries.as_chunks::<CONSIST>();
     let (vehicles, _) = tail[2..].as_chunks::<VEHICLE>();
     read_rows(heads, &mut tables.heads[0..count], |row| Head::from(*row));
-    read_rows(vehicles, &mut tables.vehicles[0..total], |row| Vehicle::from(*row));
+    read_rows(
+        vehicles,
+        &mut tables.vehicles[0..total],
+        |row| Vehicle::from(*row),
+    );
     tables.lines = count;
     tables.total = total;
 }

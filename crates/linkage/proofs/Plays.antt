@@ -1,5 +1,5 @@
 -- The steps of a run, one after another.
-use Rattle.std.proofs.Common.{◌≡◌, ℕ, ◌/◌, ◌%◌, ◌^◌, ◌<◌, Bool, true, false, ◌&&◌, eqb, ltb, leb, List, [], ◌∷◌, ◌++◌, map, length, take, drop, IsErrAnd, IfOk, Some, None, Ok, Err, Option, Result, sym, refl, ap, ◌∙◌, subst, ap₂, arith, MatchResult}
+use Rattle.std.proofs.Common.{◌≡◌, ℕ, ◌%◌, ◌^◌, ◌<◌, Bool, true, false, ◌&&◌, eqb, ltb, leb, List, [], ◌∷◌, ◌++◌, map, length, IsErrAnd, IfOk, Some, None, Ok, Err, Option, Result, sym, refl, ap, ◌∙◌, subst, ap₂, arith, MatchResult}
 use Rattle.std.proofs.lemmas.Bool.{le-leb, lt-leb, lt-ltb}
 use Rattle.std.proofs.lemmas.List.{length-map}
 use Rattle.train.specs.declared.entries.Coupled.{Coupled}
@@ -18,7 +18,6 @@ use Rattle.directory.specs.Law.{Side}
 use Rattle.directory.specs.Sections.{composition}
 use Rattle.directory.specs.Written.{Written}
 use Rattle.directory.proofs.Seen.{answered}
-use Rattle.train.proofs.Rules.{first_refuses}
 use Rattle.linkage.proofs.Tables.{identities_read}
 use Rattle.linkage.specs.Plans.{Plan, Step, Played, coupling, confirming, entries, name_of, steps, calls, step_checks, stopped, or_outcome, PlannedInto}
 

@@ -1,5 +1,5 @@
 -- What a loop over the entries of a slice needs: the check from where the loop stands.
-use Rattle.std.proofs.Common.{◌≡◌, ℕ, ◌+◌, ◌-◌, ◌<◌, ◌≤◌, Bool, true, false, cond, not, ◌&&◌, List, [], ◌∷◌, ◌++◌, map, length, get_or, take, drop, Some, None, Option, sym, refl, ap, ◌∙◌, ap₂, arith}
+use Rattle.std.proofs.Common.{◌≡◌, ℕ, ◌+◌, ◌<◌, ◌≤◌, Bool, true, false, cond, ◌&&◌, List, [], ◌∷◌, ◌++◌, map, length, get_or, take, drop, Some, None, Option, sym, refl, ap, ◌∙◌, ap₂, arith}
 use Rattle.std.proofs.lemmas.List.{drop_more, drop_all, take_more, length-take-le, map-append, length-map}
 use Rattle.train.specs.declared.refusal.Part.{Part}
 use Rattle.train.specs.declared.refusal.Place.TheVariants.{At}
@@ -8,7 +8,7 @@ use Rattle.train.specs.declared.refusal.Refusal.{Refusal}
 use Rattle.std.proofs.lemmas.Bool.{and_from}
 use Rattle.train.specs.Identities.{last_identity}
 use Rattle.train.specs.Names.{every}
-use Rattle.train.specs.Refusals.{Check, Rule, keeps, first_breach, each, each_behind, breach, or_else, refusal, among, fresh}
+use Rattle.train.specs.Refusals.{Check, Rule, keeps, first_breach, each, each_behind, breach, or_else, refusal}
 
 -- `x` is the entry at i, as the code has it
 module _ {A : Type 0} (rule : Rule A) (reason : Reason) (xs : List A) (i : ℕ) where

@@ -5,7 +5,7 @@ ghost use Rattle.train.specs.declared.identity.Identity.{Identity as Id};
 ghost use Rattle.train.specs.declared.refusal.Part.TheVariants.{Roster as InRoster};
 ghost use Rattle.fleet.specs.Meant.{meant};
 ghost use Rattle.fleet.specs.Rosters.{announced, forgotten, Announces, forget_checks};
-ghost use Rattle.fleet.specs.Sound.{sound_means};
+ghost use Rattle.fleet.specs.Sound.{roster_lawful};
 
 use super::seats::*;
 use super::*;
@@ -64,7 +64,7 @@ impl Roster {
 impl Meant for Roster {
     ghost meaning = { λ r id. meant r id };
 
-    ghost lawful = { λ r id. sound_means r.seats.items id r.sound };
+    ghost lawful = { λ r id. roster_lawful r id };
 }
 
 impl Fleet for Roster {

@@ -1,7 +1,7 @@
-use Rattle.std.proofs.Common.{◌≤◌, ◌&&◌, length, take, IfOk, sym, ◌∙◌, subst, ap₂}
+use Rattle.std.proofs.Common.{◌&&◌, take, ◌∙◌, ap₂}
 use Rattle.std.specs.Str.{bytes_eq}
 use Rattle.directory.specs.Compared.{ends_of}
-use Rattle.directory.specs.Part.{leading_part, Sections}
+use Rattle.directory.specs.Part.{leading_part}
 use Rattle.directory.proofs.Likenesses.{front, both_written, likeness_told}
 use Rattle.directory.proofs.comparing.liken_answers.Goals as goal
 

@@ -1,4 +1,4 @@
-use Rattle.std.proofs.Common.{length, Some, sym, refl, ap, ◌∙◌}
+use Rattle.std.proofs.Common.{length, Some, sym, ap, ◌∙◌}
 use Rattle.bench.specs.Shown.{shown}
 use Rattle.directory.proofs.Behind.{same_text}
 use Rattle.directory.proofs.Composed.{same_whole, same_size, too_short, long_enough, lent_text}

@@ -1,4 +1,4 @@
-use Rattle.std.proofs.Common.{◌≡◌, ◌+◌, ◌<◌, length, refl, sym, ◌∙◌, subst, arith}
+use Rattle.std.proofs.Common.{◌+◌, ◌<◌, length, sym, ◌∙◌, subst, arith}
 use Rattle.fleet.specs.Fleets.{vehicles_of}
 use Rattle.directory.proofs.Loads.{Loading, loading_more, loading_room, asked}
 use Rattle.directory.proofs.loading.load_consist.Goals as goal

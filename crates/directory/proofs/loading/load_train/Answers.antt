@@ -1,4 +1,4 @@
-use Rattle.std.proofs.Common.{◌≡◌, [], length, ap, arith}
+use Rattle.std.proofs.Common.{[], length, ap, arith}
 use Rattle.train.specs.declared.facing.Facing.TheVariants.{NotKnown}
 use Rattle.bench.specs.Shown.{shown}
 use Rattle.directory.specs.Cars.{train}

@@ -1,4 +1,4 @@
-use Rattle.std.proofs.Common.{rules, ◌≡◌, length, sum_by, sym, ap, ◌∙◌}
+use Rattle.std.proofs.Common.{rules, ◌≡◌, length, sum_by, sym, ◌∙◌}
 use Rattle.fleet.specs.Fleets.{vehicles_of}
 use Rattle.directory.proofs.Loads.{length-train}
 use Rattle.directory.proofs.loading.train_length.Goals as goal

@@ -1,7 +1,6 @@
-use Rattle.std.proofs.Common.{rules, tests, ◌≡◌, Option, Some, sym, ap, ◌∙◌}
+use Rattle.std.proofs.Common.{rules, tests, sym, ap, ◌∙◌}
 use Rattle.std.proofs.lemmas.Iterator.{YieldsList-from_slice}
 use Rattle.std.proofs.lemmas.Iterator.Search.{find_from_yields_List}
-use Rattle.std.specs.List.{find}
 use Rattle.std.specs.Option.{option_map}
 use Rattle.train.specs.Identities.{same_name}
 use Rattle.directory.proofs.Places.{found_or, pick_is}

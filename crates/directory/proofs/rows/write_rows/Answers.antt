@@ -1,6 +1,4 @@
-use Rattle.std.proofs.Common.{◌≡◌, ◌*◌, length, refl, ap, ◌∙◌, arith}
-use Rattle.std.proofs.lemmas.List.{take_all}
-use Rattle.directory.specs.Sections.{rows}
+use Rattle.std.proofs.Common.{refl, arith}
 use Rattle.directory.proofs.Behind.{lend, same_text}
 use Rattle.directory.proofs.Sections.{rows_more, times_more}
 use Rattle.directory.proofs.rows.write_rows.Goals as goal

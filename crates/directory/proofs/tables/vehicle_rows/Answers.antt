@@ -1,4 +1,4 @@
-use Rattle.std.proofs.Common.{◌+◌, get_or, sym, subst, arith}
+use Rattle.std.proofs.Common.{◌+◌, get_or, sym, subst}
 use Rattle.directory.specs.Cars.{no_car}
 use Rattle.directory.specs.Rows.{vehicle_row_of}
 use Rattle.directory.proofs.Runs.{Seating, seating_more}

@@ -1,4 +1,4 @@
-use Rattle.std.proofs.Common.{rules, refl, arith}
+use Rattle.std.proofs.Common.{rules, arith}
 use Rattle.linkage.proofs.Plays.{too_long}
 use Rattle.linkage.proofs.Tables.{identities_read}
 use Rattle.linkage.proofs.entries.refuse_long.Goals as goal
