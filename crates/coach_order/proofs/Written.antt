@@ -1,7 +1,7 @@
 -- The operational vehicles, read back from a written composition.
-use Rattle.std.proofs.Common.{◌≡◌, ℕ, ◌+◌, ◌*◌, ◌≤◌, Bool, true, false, cond, List, [], ◌∷◌, ◌++◌, map, length, get_or, take, drop, unwrap_or, sym, refl, ap, ◌∙◌, subst, ap₂, mul-suc, arith, length-append}
+use Rattle.std.proofs.Common.{◌≡◌, ℕ, ◌+◌, ◌≤◌, Bool, true, false, cond, List, [], ◌∷◌, ◌++◌, map, length, get_or, take, drop, unwrap_or, refl, ap, ◌∙◌, ap₂, arith, length-append}
 use Rattle.std.specs.List.{AllByRecursion}
-use Rattle.std.proofs.lemmas.List.{take_at, drop_at, get_or-append_right, append-nil}
+use Rattle.std.proofs.lemmas.List.{take_at, drop_at, get_or-append_right}
 use Rattle.train.specs.declared.entries.Vehicle.{Vehicle}
 use Rattle.train.specs.declared.facing.Facing.{Facing}
 use Rattle.train.specs.declared.facing.Facing.TheVariants.{NotKnown, Direct, Inverse}
@@ -18,24 +18,7 @@ use Rattle.directory.proofs.Cut.{behind_rows, entry_row_long}
 use Rattle.directory.proofs.Runs.{length-seats}
 use Rattle.directory.proofs.Vocabulary.{Sixteen}
 use Rattle.coach_order.specs.Orders.{vehicle_of}
-use Rattle.coach_order.specs.Reads.{Section, Sections, row_vehicle, row_vehicles, vehicles_read}
-
--- how long rows of one size are together
-module _ {X : Type 0} (Ok : X → Type 0) (row : ℕ → X → List ℕ) (k : ℕ) (fixed : (n : ℕ) (x : X) → Ok x → length (row n x) ≡ k) where
-  rows_long : (n : ℕ) (xs : List X) → AllByRecursion Ok xs → length (rows row n xs) ≡ k * length xs
-  rows_long n [] h = let z : k * 0 ≡ 0 = omega arith in sym z
-  rows_long n (x ∷ xs) h =
-      let a = length-append (row n x) (rows row (n + 1) xs) in
-      let b = fixed n x h.0 in
-      let d = rows_long (n + 1) xs h.1 in
-      let e = mul-suc k (length xs) in
-      omega arith
-
-  section_stands : (xs : List X) (s : List ℕ) → AllByRecursion Ok xs → Section k (section row xs ++ s)
-  section_stands xs s h =
-      let a = length-append (rows row 1 xs) s in
-      let b = rows_long 1 xs h in
-      omega arith
+use Rattle.coach_order.specs.Reads.{row_vehicle, row_vehicles, vehicles_read}
 
 facing_back : (f : Facing) → unwrap_or (coded (code f)) NotKnown ≡ f
 facing_back NotKnown = refl
@@ -97,15 +80,6 @@ module _ (f : Facts) (m : Meaning) where
     pub read_back : vehicles_read (composition f m) ≡ map vehicle_of (operational f m)
     read_back =
         ap (λ (x : List ℕ). row_vehicles (get_or x 0 0) (drop 1 x)) vehicles_at ∙ rows_back 1 ss i ∙ seats_told 0 nobody (operational f m)
-
-    pub sections_stand : Sections (composition f m)
-    sections_stand =
-        record {
-          long = omega arith;
-          train = section_stands (λ e. Sixteen e.identity.bytes) (entry_row m) 24 (entry_row_long m) f.formation (operational_part f m) h;
-          consist = subst (λ (x : List ℕ). Section 20 x) (sym consists_at) (section_stands (λ c. Sixteen c.consist.bytes) (consist_row (consist_number f)) 20 consist_long fs (section row ss) g);
-          vehicle = subst (λ (x : List ℕ). Section 24 x) (append-nil (section row ss) ∙ sym vehicles_at) (section_stands (λ s. Sixteen s.car.name.bytes) row 24 row_long ss [] i);
-        }
 
     pub count_told : get_or (vehicles (composition f m)) 0 0 ≡ length (operational f m)
     count_told = ap (λ (x : List ℕ). get_or x 0 0) vehicles_at ∙ length-seats 0 nobody (operational f m)

@@ -29,6 +29,14 @@ pub record Laid (t : List ℕ) (before : List Vehicle) (n : ℕ) (after : List V
   pub composed : map vehicle_of (operational (facts_of items) (meaning_of items)) ≡ vehicles_in items
   pub wrote : Written (vehicles_in items) before n after
 
+-- The same, as a list of vehicles.
+pub record IsOrder (t : List ℕ) (vehicles : List Vehicle) : Type 0 where
+  pub items : List Item
+  pub list : Lists t items
+  pub coupled : uncoupled items ≡ None
+  pub composed : map vehicle_of (operational (facts_of items) (meaning_of items)) ≡ vehicles_in items
+  pub order : vehicles ≡ vehicles_in items
+
 -- the consists of the list cannot be coupled in this order
 pub record Uncoupled (t : List ℕ) (f : Refusal) : Type 0 where
   pub items : List Item
@@ -47,7 +55,7 @@ Ordered t before after (Err f) = (after ≡ before) × Refused t f
 
 -- Every text breaks at one place, or is the list of some lines; what it is decides the answer: import's refusal, or else
 -- that of inaugurate, or else that of compose. The same in plain words.
-pub record Decided (t : List ℕ) (r : Result ℕ Refusal) : Type 0 where
+pub record Decided {A : Type 0} (t : List ℕ) (r : Result A Refusal) : Type 0 where
   pub breaks : (f : Refusal) → Broken t f → refusal_of r ≡ Some f
   pub lists : (is : List Item) → AllByRecursion IsLine is → t ≡ list_text is → refusal_of r ≡ or_else (refusal Text (list_checks is 38206)) (uncoupled is)
   pub plain : (is : List Item) → AllByRecursion IsLine is → t ≡ list_text is → refusal_of r ≡ refusal_of_list is
