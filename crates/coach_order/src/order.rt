@@ -11,11 +11,15 @@ use crate::coupling::couple_all;
 use crate::section::operational_vehicles;
 use arrayvec::ArrayVec;
 use bench::state::Bench;
+use directory::cars::MOST;
 use directory::composing::compose;
 use fleet::book::Book;
 use fleet_list::import::import_list;
 use train::entries::Vehicle;
 use train::refusal::Refusal;
+
+/// The vehicles of a train from the head.
+pub type Order = ArrayVec<Vehicle, MOST>;
 
 /// The length of a full book: 200 consists and 2000 vehicles.
 const BOOK: usize = 38206;
@@ -35,7 +39,7 @@ fn couple_on_bench(book: &Book<'_>) -> Result<Bench, Refusal>
 }
 
 /// Composes all consists of a book: its vehicles from the head.
-fn compose_all(book: &Book<'_>) -> Result<ArrayVec<Vehicle, 63>, Refusal>
+fn compose_all(book: &Book<'_>) -> Result<Order, Refusal>
     requires { IsFleet (held book.now) }
     ensures answer { refusal_of result ≡ uncoupled (held book.now) }
     ensures order { IfOk result (λ vehicles. vehicles.items ≡ vehicles_in (held book.now)) }
@@ -49,7 +53,7 @@ fn compose_all(book: &Book<'_>) -> Result<ArrayVec<Vehicle, 63>, Refusal>
 
 /// Composes all consists of a fleet list in its order, each direct, with ETB counter 1, no claim and no confirmed
 /// list: the vehicles from the head.
-pub fn order_from_head(list: &[u8]) -> Result<ArrayVec<Vehicle, 63>, Refusal>
+pub fn order_from_head(list: &[u8]) -> Result<Order, Refusal>
     ensures order { IfOk result (λ vehicles. IsOrder list.now vehicles.items) }
     ensures refused { IfErr result (Refused list.now) }
     ensures decided { Decided list.now result }
@@ -63,7 +67,7 @@ pub fn order_from_head(list: &[u8]) -> Result<ArrayVec<Vehicle, 63>, Refusal>
 }
 
 /// Lays out the vehicles of `order_from_head` at the front of `vehicles`, and answers how many there are.
-pub fn coach_order(list: &[u8], vehicles: &mut [Vehicle; 63]) -> Result<usize, Refusal>
+pub fn coach_order(list: &[u8], vehicles: &mut [Vehicle; MOST]) -> Result<usize, Refusal>
     ensures answer { Ordered list.now vehicles.old vehicles.new result }
     ensures decided { Decided list.now result }
 {

@@ -4,7 +4,7 @@ ghost use Rattle.fleet.specs.Rows.{rows};
 ghost use Rattle.directory.specs.Part.{past as past_of, vehicles as vehicles_in, Section, Sections};
 ghost use Rattle.coach_order.specs.Reads.{row_vehicle, vehicles_read};
 
-use arrayvec::ArrayVec;
+use crate::order::Order;
 use train::entries::Vehicle;
 use train::facing::Facing;
 use train::name::Name;
@@ -56,11 +56,11 @@ fn vehicle_rows(composition: &[u8]) -> &[[u8; VEHICLE]]
 }
 
 /// The vehicles of the rows.
-fn vehicles_of(rows: &[[u8; VEHICLE]]) -> ArrayVec<Vehicle, 63>
+fn vehicles_of(rows: &[[u8; VEHICLE]]) -> Order
     requires { length rows.now ≤ 63 }
     ensures { result.items ≡ map row_vehicle rows.now }
 {
-    let mut vehicles = ArrayVec::new();
+    let mut vehicles = Order::new();
     for row in rows {
         vehicles.push(vehicle_of(row));
     }
@@ -68,7 +68,7 @@ fn vehicles_of(rows: &[[u8; VEHICLE]]) -> ArrayVec<Vehicle, 63>
 }
 
 /// The operational vehicles of a written composition.
-pub(crate) fn operational_vehicles(composition: &[u8]) -> ArrayVec<Vehicle, 63>
+pub(crate) fn operational_vehicles(composition: &[u8]) -> Order
     requires written { Sections composition.now }
     requires room { slice_index (vehicles_in composition.now) 0 ≤ 63 }
     ensures { result.items ≡ vehicles_read composition.now }
