@@ -1,5 +1,5 @@
 -- The text of a name that can be printed.
-use Rattle.std.proofs.Common.{◌≡◌, ℕ, ◌<◌, ◌≤◌, true, List, [], ◌∷◌, Ok, Err, Result, MatchResult, refl, ap, ◌∙◌, arith}
+use Rattle.std.proofs.Common.{◌≡◌, ℕ, ◌≤◌, true, List, [], ◌∷◌, Ok, Err, Result, MatchResult, nat_le, refl, ap, ◌∙◌, arith}
 use Rattle.std.specs.List.{AllByRecursion}
 use Rattle.std.proofs.ByRecursion.{All-append, All-weaker}
 use Rattle.std.specs.Result.{IsOk}
@@ -15,15 +15,12 @@ use Rattle.fleet.specs.Books.{Item, IsItem, vehicles_in}
 use Rattle.coach_order.specs.Ordered.{IsOrder}
 use Rattle.coach_order.specs.Pages.{named}
 
-below : (b : ℕ) → b ≤ 126 → b < 128
-below b l = omega arith
-
 IsAscii-from_printable : (bs : List ℕ) → every printable bs ≡ true → IsAscii bs
 IsAscii-from_printable [] h = IsAscii-nil
 IsAscii-from_printable (b ∷ bs) h =
     let (first, others) = and_parts (printable b) (every printable bs) h in
-    let l : b ≤ 126 = leb-true b 126 (and_parts _ _ first).1 in
-    IsAscii-cons b bs (below b l) (IsAscii-from_printable bs others)
+    let l : b ≤ 126 = leb-true b 126 (and_parts (nat_le 32 b) (nat_le b 126) first).1 in
+    IsAscii-cons b bs (omega arith) (IsAscii-from_printable bs others)
 
 pub IsUtf8-from_name : (bs : List ℕ) → well_formed bs ≡ true → IsUtf8 (text_of bs)
 IsUtf8-from_name bs h =

@@ -1,13 +1,14 @@
 -- The operational vehicles, read back from a written composition.
-use Rattle.std.proofs.Common.{◌≡◌, ℕ, ◌+◌, ◌≤◌, Bool, true, false, cond, List, [], ◌∷◌, ◌++◌, map, length, get_or, take, drop, unwrap_or, refl, ap, ◌∙◌, ap₂, arith, length-append}
+use Rattle.std.proofs.Common.{◌≡◌, ℕ, ◌+◌, ◌≤◌, Bool, true, false, cond, List, [], ◌∷◌, ◌++◌, map, length, get_or, take, drop, unwrap_or, Option, refl, ap, ◌∙◌, ap₂, arith, length-append}
 use Rattle.std.specs.List.{AllByRecursion}
 use Rattle.std.proofs.lemmas.List.{take_at, drop_at, get_or-append_right}
 use Rattle.train.specs.declared.entries.Vehicle.{Vehicle}
 use Rattle.train.specs.declared.facing.Facing.{Facing}
-use Rattle.train.specs.declared.facing.Facing.TheVariants.{NotKnown, Direct, Inverse}
+use Rattle.train.specs.declared.facing.Facing.TheVariants.{NotKnown}
 use Rattle.train.specs.declared.identity.Identity.{Identity}
 use Rattle.train.specs.Facings.{code, coded}
 use Rattle.train.specs.Identities.{same_identity}
+use Rattle.train.proofs.Facings.{facing_laws}
 use Rattle.fleet.specs.Fleets.{Meaning}
 use Rattle.bench.specs.Facts.{Facts}
 use Rattle.directory.specs.declared.cars.Car.{Car}
@@ -19,11 +20,6 @@ use Rattle.directory.proofs.Runs.{length-seats}
 use Rattle.directory.proofs.Vocabulary.{Sixteen}
 use Rattle.coach_order.specs.Orders.{vehicle_of}
 use Rattle.coach_order.specs.Reads.{row_vehicle, row_vehicles, vehicles_read}
-
-facing_back : (f : Facing) → unwrap_or (coded (code f)) NotKnown ≡ f
-facing_back NotKnown = refl
-facing_back Direct = refl
-facing_back Inverse = refl
 
 -- each vehicle of an operational order stands in one row, in that order
 seats_told : (n : ℕ) (x : Identity) (cs : List Car) → map (λ s. vehicle_of s.car) (seats n x cs) ≡ map vehicle_of cs
@@ -53,7 +49,7 @@ module _ (f : Facts) (m : Meaning) where
       let a : take 16 (row n s) ≡ s.car.name.bytes = take_at s.car.name.bytes rest 16 h in
       let b : get_or (row n s) 20 0 ≡ code s.car.facing = get_or-append_right s.car.name.bytes rest 16 20 0 h le in
       ap₂ (λ (bs : List ℕ) (g : Facing). let v : Vehicle = record { name = record { bytes = bs }; facing = g } in v) a
-      (ap (λ (k : ℕ). unwrap_or (coded k) NotKnown) b ∙ facing_back s.car.facing)
+      (ap (λ (k : ℕ). unwrap_or (coded k) NotKnown) b ∙ ap (λ (o : Option Facing). unwrap_or o NotKnown) (facing_laws.reads s.car.facing))
 
   rows_back : (n : ℕ) (ss : List Seat) → AllByRecursion (λ s. Sixteen s.car.name.bytes) ss → row_vehicles (length ss) (rows row n ss) ≡ map (λ s. vehicle_of s.car) ss
   rows_back n [] h = refl

@@ -36,10 +36,9 @@ fn split_section<const N: usize>(bytes: &[u8]) -> (&[[u8; N]], &[u8])
 fn vehicle_of(row: &[u8; VEHICLE]) -> Vehicle
     ensures { result ≡ row_vehicle row.now }
 {
-    let mut bytes = [0; 16];
-    bytes.copy_from_slice(&row[..16]);
+    let name = row.first_chunk().unwrap();
     Vehicle {
-        name: Name { bytes },
+        name: Name { bytes: *name },
         facing: Facing::try_from(row[20]).unwrap_or(Facing::NotKnown),
     }
 }
