@@ -23,19 +23,6 @@ pub among-map : {A B C : Type 0} (same : C → C → Bool) (f : A → B) (key : 
 among-map same f key x [] = refl
 among-map same f key x (y ∷ ys) = ap (λ (b : Bool). same (key (f x)) (key (f y)) || b) (among-map same f key x ys)
 
-module _ {A B : Type 0} (f : A → B) (rule : Rule A) (other : Rule B) (same : (before : List A) (x : A) → rule before x ≡ other (map f before) (f x)) where
-  pub keeps-map : (before xs : List A) → keeps rule before xs ≡ keeps other (map f before) (map f xs)
-  keeps-map before [] = refl
-  keeps-map before (x ∷ xs) =
-      ap₂ ◌&&◌ (same before x) (keeps-map (before ++ x ∷ []) xs ∙ ap (λ (b : List B). keeps other b (map f xs)) (map-append f before (x ∷ [])))
-
-  pub breach-map : (before xs : List A) → first_breach rule before xs ≡ first_breach other (map f before) (map f xs)
-  breach-map before [] = refl
-  breach-map before (x ∷ xs) =
-      ap (λ (b : Bool). cond b (first_breach rule (before ++ x ∷ []) xs) (length before + 1)) (same before x)
-      ∙ ap₂ (λ (p n : ℕ). cond (other (map f before) (f x)) p (n + 1))
-      (breach-map (before ++ x ∷ []) xs ∙ ap (λ (b : List B). first_breach other b (map f xs)) (map-append f before (x ∷ []))) (sym (length-map before f))
-
 -- where a rule is broken, the first breach is at one of the entries
 abbrev pub Within : ℕ → ℕ → ℕ → Type 0
 Within n k p = (n + 1 ≤ p) × (p ≤ n + k)

@@ -1,5 +1,7 @@
 mod Coupled
 mod Readings
+pub mod Digits
+mod Names
 mod Composed
 mod Written
 mod Breaches

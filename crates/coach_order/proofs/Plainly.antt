@@ -37,7 +37,8 @@ use Rattle.directory.proofs.Runs.{firsts_few}
 use Rattle.directory.proofs.Vocabulary.{keeps_alone}
 use Rattle.coach_order.specs.Orders.{direct, formation_of, facts_of, inaugurated, composed, uncoupled, vehicle_of}
 use Rattle.coach_order.specs.Plain.{holder, fresh_name, named_apart, plainly, line_checks}
-use Rattle.coach_order.proofs.Breaches.{ok_first, or_none, every_yes, among-map, keeps-map, breach-map, breach_within}
+use Rattle.coach_order.proofs.Breaches.{ok_first, or_none, every_yes, among-map, breach_within}
+use Rattle.train.proofs.Rules.{keeps-map, breach-map}
 use Rattle.coach_order.proofs.Composed.{meant_each, no_leads, head_first, train_told}
 
 -- inaugurate asks only how many consists there are

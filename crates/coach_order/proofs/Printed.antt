@@ -1,49 +1,45 @@
 -- A page, put together from its parts.
-use Rattle.std.proofs.Common.{◌≡◌, ℕ, ◌≤◌, List, [], ◌∷◌, ◌++◌, length, Ok, Err, Option, sym, refl, ap, ◌∙◌, ap₂, append_assoc, arith}
+use Rattle.std.proofs.Common.{◌≡◌, ℕ, ◌+◌, ◌<◌, ◌≤◌, List, [], ◌∷◌, ◌++◌, length, take, get_or, codes, decimal, Ok, Err, Option, sym, refl, ap, ◌∙◌, append_assoc, arith}
+use Rattle.train.specs.declared.entries.Vehicle.{Vehicle}
 use Rattle.train.specs.declared.refusal.Refusal.{Refusal}
+use Rattle.train.specs.Names.{text_of}
 use Rattle.fleet.specs.Books.{Item, vehicles_in}
 use Rattle.fleet_list.proofs.Back.{apart}
-use Rattle.coach_order.specs.Ordered.{Lists, Decided}
-use Rattle.coach_order.specs.Pages.{order_text, refusal_text, answer_text, Printed}
-
-pub two_parts : (p a b : List ℕ) (l m b' : List ℕ) → l ≡ p ++ a → m ≡ l ++ b' → b' ≡ b → m ≡ p ++ (a ++ b)
-two_parts p a b l m b' e f g = f ∙ ap₂ (λ (x y : List ℕ). x ++ y) e g ∙ append_assoc p a b
-
--- a vehicle's line
-pub line_told : (p : List ℕ) (a b s : ℕ) (sign name : List ℕ) (l m n name' : List ℕ) → l ≡ p ++ (a ∷ b ∷ 32 ∷ s ∷ 32 ∷ []) → m ≡ l ++ name' → name' ≡ name → n ≡ m ++ (10 ∷ [])
-    → sign ≡ s ∷ [] → n ≡ p ++ (a ∷ b ∷ 32 ∷ (sign ++ (32 ∷ (name ++ 10 ∷ []))))
-line_told p a b s sign name l m n name' e f g h i =
-    two_parts p ((a ∷ b ∷ 32 ∷ s ∷ 32 ∷ []) ++ name) (10 ∷ []) m n (10 ∷ []) (two_parts p (a ∷ b ∷ 32 ∷ s ∷ 32 ∷ []) name l m name' e f g) h refl
-    ∙ ap (λ (z : List ℕ). p ++ (a ∷ b ∷ 32 ∷ (z ++ (32 ∷ (name ++ 10 ∷ []))))) (sym i)
+use Rattle.directory.specs.Sections.{rows}
+use Rattle.directory.proofs.Sections.{rows_more}
+use Rattle.coach_order.specs.Ordered.{IsOrder, Refused, Decided}
+use Rattle.coach_order.specs.Pages.{line_text, vehicle_line, order_text, refusal_text, answer_text, Page, Printed}
 
 -- one line more behind a count and the lines before it
-pub lines_more : (word digits rows line more : List ℕ) (l m : List ℕ) → l ≡ word ++ (digits ++ 10 ∷ rows) → m ≡ l ++ line → rows ++ line ≡ more → m ≡ word ++ (digits ++ 10 ∷ more)
-lines_more word digits rows line more l m e f g =
-    f ∙ ap (λ (x : List ℕ). x ++ line) e ∙ append_assoc word (digits ++ 10 ∷ rows) line
-    ∙ ap (λ (x : List ℕ). word ++ x) (append_assoc digits (10 ∷ rows) line)
-    ∙ ap (λ (x : List ℕ). word ++ (digits ++ 10 ∷ x)) g
+pub line_more : (vs : List Vehicle) (i : ℕ) (d : Vehicle) (name : List ℕ) → i < length vs → name ≡ text_of (get_or vs i d).name.bytes
+    → (codes "vehicles " ++ (decimal (length vs) ++ 10 ∷ rows vehicle_line 1 (take i vs))) ++ line_text (i + 1) (get_or vs i d).facing name
+    ≡ codes "vehicles " ++ (decimal (length vs) ++ 10 ∷ rows vehicle_line 1 (take (i + 1) vs))
+line_more vs i d name h e =
+    append_assoc (codes "vehicles ") (decimal (length vs) ++ 10 ∷ rows vehicle_line 1 (take i vs)) _
+    ∙ ap (λ x. codes "vehicles " ++ x) (append_assoc (decimal (length vs)) (10 ∷ rows vehicle_line 1 (take i vs)) _)
+    ∙ ap (λ x. codes "vehicles " ++ (decimal (length vs) ++ 10 ∷ x))
+    (ap (λ t. rows vehicle_line 1 (take i vs) ++ line_text (i + 1) (get_or vs i d).facing t) e ∙ rows_more vehicle_line vs i (get_or vs i d) d refl h)
 
--- the page of a refusal
-pub refusal_told : (word digits place : List ℕ) (p l m n : List ℕ) → p ≡ [] → l ≡ p ++ (word ++ digits) → m ≡ l ++ place → n ≡ m ++ (10 ∷ []) → n ≡ word ++ (digits ++ (place ++ 10 ∷ []))
-refusal_told word digits place p l m n e f g h =
-    h ∙ ap (λ (x : List ℕ). x ++ (10 ∷ [])) (g ∙ ap (λ (x : List ℕ). x ++ place) (f ∙ ap (λ (x : List ℕ). x ++ (word ++ digits)) e))
-    ∙ append_assoc (word ++ digits) place (10 ∷ []) ∙ append_assoc word digits (place ++ 10 ∷ [])
+-- the page of an answer is the text of its order, or of its refusal
+pub order_page : {A : Type 0} {t page : List ℕ} {a : A} {vs : List Vehicle} → length t ≤ 65535 → IsOrder t vs → Decided t (Ok a) → page ≡ order_text vs → Page t page × Printed t page
+order_page {A} {t} {page} {a} {vs} le o d p =
+    let e = p ∙ ap order_text o.order in (
+      Page.order le o.items o.list o.coupled e,
+      record {
+        long = λ h. absurd (omega arith);
+        breaks = λ _ f b. let z : ◌≡◌ {A = ℕ} 0 1 = let w = d.breaks f b in cc in absurd (omega arith);
+        lists = λ _ js k q.
+            e ∙ ap (λ (xs : List Item). order_text (vehicles_in xs)) (apart o.items js o.list.lines k (sym o.list.text ∙ q))
+            ∙ ap (λ (r : Option Refusal). answer_text r (vehicles_in js)) (d.plain js k q);
+      },
+    )
 
--- what the text is decides the page
-pub printed_order : (t page : List ℕ) (n : ℕ) (is : List Item) → length t ≤ 65535 → Decided t (Ok n) → Lists t is → page ≡ order_text (vehicles_in is) → Printed t page
-printed_order t page n is le d l p =
-    record {
-      long = λ h. absurd (omega arith);
-      breaks = λ _ f b. let z : ◌≡◌ {A = ℕ} 0 1 = let w = d.breaks f b in cc in absurd (omega arith);
-      lists = λ _ js k e.
-          p ∙ ap (λ (xs : List Item). order_text (vehicles_in xs)) (apart is js l.lines k (sym l.text ∙ e))
-          ∙ ap (λ (o : Option Refusal). answer_text o (vehicles_in js)) (d.plain js k e);
-    }
-
-pub printed_refusal : (t page : List ℕ) (f : Refusal) → length t ≤ 65535 → Decided t (Err f) → page ≡ refusal_text f → Printed t page
-printed_refusal t page f le d p =
-    record {
-      long = λ h. absurd (omega arith);
-      breaks = λ _ g b. p ∙ ap (λ (o : Option Refusal). answer_text o []) (d.breaks g b);
-      lists = λ _ js k e. p ∙ ap (λ (o : Option Refusal). answer_text o (vehicles_in js)) (d.plain js k e);
-    }
+pub refusal_page : {A : Type 0} {t page : List ℕ} {f : Refusal} → length t ≤ 65535 → Refused t f → Decided {A = A} t (Err f) → page ≡ refusal_text f → Page t page × Printed t page
+refusal_page {A} {t} {page} {f} le r d p = (
+  Page.refused le f r p,
+  record {
+    long = λ h. absurd (omega arith);
+    breaks = λ _ g b. p ∙ ap (λ (o : Option Refusal). answer_text o []) (d.breaks g b);
+    lists = λ _ js k e. p ∙ ap (λ (o : Option Refusal). answer_text o (vehicles_in js)) (d.plain js k e);
+  },
+)

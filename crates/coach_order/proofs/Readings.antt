@@ -1,27 +1,28 @@
 -- Sections and rows, as they are cut from bytes.
-use Rattle.std.proofs.Common.{◌≡◌, ℕ, zero, suc, ◌+◌, ◌-◌, ◌*◌, ◌<◌, List, [], length, get_or, take, drop, sym, ap, ◌∙◌, suc-mul, mul_comm, add_comm, arith}
-use Rattle.std.proofs.lemmas.List.{drop-drop, take_rest}
-use Rattle.train.specs.declared.entries.Vehicle.{Vehicle}
+use Rattle.std.proofs.Common.{◌≡◌, ℕ, zero, suc, ◌+◌, ◌*◌, ◌/◌, ◌<◌, ◌≤◌, List, ◌∷◌, length, get_or, take, drop, refl, sym, ap, ◌∙◌, ap₂, mul-suc, arith}
+use Rattle.std.proofs.Math.Nat.{mul-div_cancel_left}
+use Rattle.std.proofs.lemmas.List.{drop-drop, drop-take, length-take-le}
 use Rattle.fleet.specs.Rows.{rows}
-use Rattle.fleet.specs.Entries.{rows_at}
-use Rattle.directory.specs.Part.{behind, past}
-use Rattle.coach_order.specs.Reads.{row_vehicle}
+use Rattle.fleet.specs.Entries.{take-take}
+use Rattle.directory.specs.Part.{past}
+use Rattle.directory.proofs.Thin.{past_drop}
 
-behind_drop : (k n : ℕ) (bs : List ℕ) → behind k n bs ≡ drop (n * k) bs
-behind_drop k zero bs = let z : 0 * k ≡ 0 = omega arith in rw z
-behind_drop k (suc n) bs =
-    let e : k + n * k ≡ suc n * k = add_comm k (n * k) ∙ sym (suc-mul n k) in
-    behind_drop k n (drop k bs) ∙ drop-drop (n * k) k bs ∙ ap (λ (j : ℕ). drop j bs) e
+-- the rows of a section are those of its bytes alone
+rows-take : (w n : ℕ) (bs : List ℕ) → rows w n (take (w * n) bs) ≡ rows w n bs
+rows-take w zero bs = refl
+rows-take w (suc n) bs =
+    let e : w * suc n ≡ w + w * n = omega (arith, mul-suc w n) in
+    ap (λ (k : ℕ). rows w (suc n) (take k bs)) e
+    ∙ ap₂ (λ (row : List ℕ) (more : List (List ℕ)). row ∷ more) (take-take w (w + w * n) bs (omega arith))
+    (ap (rows w n) (drop-take w (w * n) bs) ∙ rows-take w n (drop w bs))
 
--- the bytes behind a section, as the code lends them
-pub past_lent : (w : ℕ) (bs : List ℕ) → take (length bs - (1 + w * get_or bs 0 0)) (drop (1 + w * get_or bs 0 0) bs) ≡ past w bs
-past_lent w bs =
-    take_rest bs (1 + w * get_or bs 0 0)
-    ∙ ap (λ (j : ℕ). drop (1 + j) bs) (mul_comm w (get_or bs 0 0))
-    ∙ sym (behind_drop w (get_or bs 0 0) (drop 1 bs) ∙ drop-drop (get_or bs 0 0 * w) 1 bs)
+-- the rows that the code cuts from a section, as so many as fit
+pub rows_cut : (w n : ℕ) (bs cut : List ℕ) (chunks : List (List ℕ)) → 0 < w → w * n ≤ length bs → cut ≡ take (w * n) bs → chunks ≡ rows w (length cut / w) cut → chunks ≡ rows w n bs
+rows_cut w n bs cut chunks some fits e f =
+    let long : length cut ≡ w * n = ap length e ∙ length-take-le (w * n) bs fits in
+    let many : length cut / w ≡ n = ap (λ (k : ℕ). k / w) long ∙ mul-div_cancel_left n some in
+    f ∙ ap₂ (rows w) many e ∙ rows-take w n bs
 
--- the vehicle of the i-th row, as the code lends it
-pub row_told : (n : ℕ) (bs : List ℕ) (i : ℕ) (v : Vehicle) → i < n → v ≡ row_vehicle (take (i * 24 + 24 - i * 24) (drop (i * 24) bs)) → v ≡ row_vehicle (get_or (rows 24 n bs) i [])
-row_told n bs i v h e =
-    let z : i * 24 + 24 - i * 24 ≡ 24 = omega arith in
-    e ∙ ap row_vehicle (ap (λ (j : ℕ). take j (drop (i * 24) bs)) z ∙ sym (rows_at 24 n bs i [] h))
+-- what stands behind a section, as the code cuts it
+pub past_cut : (w : ℕ) (bs : List ℕ) → drop (w * get_or bs 0 0) (drop 1 bs) ≡ past w bs
+past_cut w bs = drop-drop (w * get_or bs 0 0) 1 bs ∙ sym (past_drop w bs)

@@ -1,5 +1,5 @@
 -- What the checks of a coupled fleet say of its composition, and the answer of the whole call.
-use Rattle.std.proofs.Common.{◌≡◌, ℕ, ◌-◌, ◌≤◌, true, ◌⊎◌, List, [], ◌∷◌, length, get_or, take, drop, Some, None, Ok, Err, Option, Result, sym, ap, ◌∙◌, subst, inl, inr, arith, MatchResult}
+use Rattle.std.proofs.Common.{◌≡◌, ℕ, ◌≤◌, true, ◌⊎◌, List, [], ◌∷◌, length, get_or, take, drop, Some, None, Ok, Err, Option, Result, sym, ap, ◌∙◌, subst, inl, inr, arith, IfOk, IfErr}
 use Rattle.std.specs.List.{AllByRecursion}
 use Rattle.std.proofs.lemmas.List.{take_at}
 use Rattle.std.proofs.lemmas.Bool.{leb-true}
@@ -21,18 +21,23 @@ use Rattle.bench.specs.Facts.{Facts, nothing}
 use Rattle.bench.proofs.Acts.{taken_does}
 use Rattle.directory.specs.Composing.{checks}
 use Rattle.directory.specs.Operation.{operational}
-use Rattle.directory.specs.Part.{vehicles}
+use Rattle.directory.specs.Part.{vehicles, Sections}
 use Rattle.directory.specs.Sections.{composition}
 use Rattle.directory.specs.Written.{Written}
 use Rattle.directory.proofs.Kept.{Kept, run_keeps}
+use Rattle.directory.proofs.Cut.{sections_told}
 use Rattle.directory.proofs.Fine.{fine}
 use Rattle.coach_order.specs.Orders.{formation_of, facts_of, inaugurated, composed, uncoupled}
-use Rattle.coach_order.specs.Ordered.{Lists, Refused, Ordered, Decided}
+use Rattle.coach_order.specs.Ordered.{Lists, IsOrder, Refused, Decided}
 use Rattle.coach_order.specs.Plain.{plainly}
-use Rattle.coach_order.specs.Reads.{Sections, vehicles_read}
+use Rattle.coach_order.specs.Reads.{vehicles_read}
 use Rattle.coach_order.proofs.Composed.{head_first, order_told}
 use Rattle.coach_order.proofs.Plainly.{plain_told, import_plainly}
-use Rattle.coach_order.proofs.Written.{read_back, sections_stand, count_told}
+use Rattle.coach_order.proofs.Written.{read_back, count_told}
+
+-- what was written, as the code lends it
+lent : {A : Type 0} {a xs out : List A} {n : ℕ} → Written a xs n out → take n out ≡ a
+lent {A} {a} {xs} {out} {n} w = ap (take n) w.wrote ∙ take_at a (drop n xs) n w.long
 
 -- the formation that was accepted is what stands
 pub stands : (is : List Item) → None ≡ inaugurated is → Kept (facts_of is)
@@ -48,12 +53,13 @@ few is e =
     let b = leb-true _ 63 ok.1.1.0 in
     omega arith
 
-pub record Ready (is : List Item) : Type 0 where
-  pub sections : Sections (composition (facts_of is) (meaning_of is))
-  pub count : get_or (vehicles (composition (facts_of is) (meaning_of is))) 0 0 ≤ 63
-  pub read : vehicles_read (composition (facts_of is) (meaning_of is)) ≡ vehicles_in is
+-- the operational vehicles can be read from a composition of the fleet
+pub record Ready (is : List Item) (text : List ℕ) : Type 0 where
+  pub sections : Sections text
+  pub count : get_or (vehicles text) 0 0 ≤ 63
+  pub read : vehicles_read text ≡ vehicles_in is
 
-pub ready : (is : List Item) → IsFleet is → None ≡ inaugurated is → None ≡ composed is → Ready is
+ready : (is : List Item) → IsFleet is → None ≡ inaugurated is → None ≡ composed is → Ready is (composition (facts_of is) (meaning_of is))
 ready is fleet a b =
     let f : Facts = facts_of is in
     let m : Meaning = meaning_of is in
@@ -62,50 +68,56 @@ ready is fleet a b =
     let n = count_told f m k.sixteen w.consists w.named in
     let l = few is b in
     record {
-      sections = sections_stand f m k.sixteen w.consists w.named;
+      sections = sections_told f m k.sixteen w.consists w.named;
       count = omega arith;
       read = read_back f m k.sixteen w.consists w.named ∙ order_told is fleet.rising;
     }
 
--- composing is asked where inaugurate was accepted
-pub then_composed : (is : List Item) (o : Option Refusal) → None ≡ inaugurated is → o ≡ composed is → o ≡ uncoupled is
-then_composed is o a b = b ∙ ap (λ (x : Option Refusal). or_else x (composed is)) a
+-- what compose answers over the facts of a coupled fleet, and what it writes
+module _ (is : List Item) {f : Facts} (a : None ≡ inaugurated is) (e : f ≡ facts_of is) where
+  here : refusal Composing (checks f (meaning_of is) 4303) ≡ composed is
+  here = ap (λ (g : Facts). refusal Composing (checks g (meaning_of is) 4303)) e
 
-pub first_refused : (is : List Item) (f : Refusal) → Some f ≡ inaugurated is → Some f ≡ uncoupled is
-first_refused is f a = ap (λ (x : Option Refusal). or_else x (composed is)) a
+  pub then_composed : {o : Option Refusal} → o ≡ refusal Composing (checks f (meaning_of is) 4303) → o ≡ uncoupled is
+  then_composed b = b ∙ here ∙ ap (λ (x : Option Refusal). or_else x (composed is)) a
+
+  pub then_ready : {xs out : List ℕ} {n : ℕ} → IsFleet is → None ≡ refusal Composing (checks f (meaning_of is) 4303) → Written (composition f (meaning_of is)) xs n out → Ready is (take n out)
+  then_ready {xs} {out} {n} fleet b w =
+      subst (Ready is) (sym (lent w ∙ ap (λ (g : Facts). composition g (meaning_of is)) e)) (ready is fleet a (b ∙ here))
 
 -- the book of the list, as the code lends it
-pub book_lent : {t before after : List ℕ} {n : ℕ} (c : Carried t before n after) → IsBook (take (n - 0) after) c.items
+pub book_lent : {t before after : List ℕ} {n : ℕ} (c : Carried t before n after) → IsBook (take n after) c.items
 book_lent {t} {before} {after} {n} c =
-    let z : n - 0 ≡ n = omega arith in
     let w = c.wrote in
-    record {
-      fleet = c.fleet;
-      written = sym (ap (λ (k : ℕ). take k after) z ∙ ap (take n) w.wrote ∙ take_at (book_of c.items) (drop n before) n w.long);
-    }
+    record { fleet = c.fleet; written = sym (ap (take n) w.wrote ∙ take_at (book_of c.items) (drop n before) n w.long) }
 
 pub list_of : {t before after : List ℕ} {n : ℕ} (c : Carried t before n after) → Lists t c.items
 list_of c = record { lines = c.lines; fleet = c.fleet; text = c.is }
 
-pub ordered : (t : List ℕ) (before after : List Vehicle) (is held : List Item) (r : Result ℕ Refusal) → Lists t is → is ≡ held
-    → refusal_of r ≡ uncoupled held → MatchResult r (λ n. Written (vehicles_in held) before n after) (λ _. after ≡ before) → Ordered t before after r
-ordered t before after is held (Ok n) l e a w =
-    record {
-      items = held;
-      list = subst (Lists t) e l;
-      coupled = sym a;
-      composed = order_told held (subst IsFleet e l.fleet).rising;
-      wrote = w;
-    }
-ordered t before after is held (Err f) l e a w = (w, inr (inr (record { items = held; list = subst (Lists t) e l; refused = sym a })))
+-- the answer where import accepts the text
+module _ {A : Type 0} (order : A → List Vehicle) (t : List ℕ) (is held : List Item) (l : Lists t is) (e : is ≡ held) where
+  pub order_if : (r : Result A Refusal) → refusal_of r ≡ uncoupled held → IfOk r (λ a. order a ≡ vehicles_in held) → IfOk r (λ a. IsOrder t (order a))
+  order_if (Ok a) q o =
+      record {
+        items = held;
+        list = subst (Lists t) e l;
+        coupled = sym q;
+        composed = order_told held (subst IsFleet e l.fleet).rising;
+        order = o;
+      }
+  order_if (Err f) q o = tt
+
+  pub refused_if : (r : Result A Refusal) → refusal_of r ≡ uncoupled held → IfErr r (Refused t)
+  refused_if (Ok a) q = tt
+  refused_if (Err f) q = inr (inr (record { items = held; list = subst (Lists t) e l; refused = sym q }))
 
 pub import_refused : (t : List ℕ) (f : Refusal) → Broken t f ⊎ Unmet t 38206 f → Refused t f
 import_refused t f (inl b) = inl b
 import_refused t f (inr u) = inr (inl u)
 
 -- what the text is decides the answer, where import refuses it and where it does not
-pub decided_first : (t before : List ℕ) (f : Refusal) → length before ≡ 38206 → ImportDecided t before (Err f) → Decided t (Err f)
-decided_first t before f long d =
+pub decided_first : {A : Type 0} (t before : List ℕ) (f : Refusal) → length before ≡ 38206 → ImportDecided t before (Err f) → Decided {A = A} t (Err f)
+decided_first {A} t before f long d =
     let q : (is : List Item) → AllByRecursion IsLine is → t ≡ list_text is → Some f ≡ refusal Text (list_checks is 38206) =
     λ is l e. d.lists is l e ∙ ap (λ (n : ℕ). refusal Text (list_checks is n)) long in
     record {
@@ -114,9 +126,9 @@ decided_first t before f long d =
       plain = λ is l e. ap (λ (o : Option Refusal). or_else o (plainly is)) (q is l e ∙ import_plainly is l);
     }
 
-pub decided_then : (t before : List ℕ) (n : ℕ) (items : List Item) (r : Result ℕ Refusal) → length before ≡ 38206 → ImportDecided t before (Ok n) → Lists t items
+pub decided_then : {A : Type 0} (t before : List ℕ) (n : ℕ) (items : List Item) (r : Result A Refusal) → length before ≡ 38206 → ImportDecided t before (Ok n) → Lists t items
     → refusal_of r ≡ uncoupled items → Decided t r
-decided_then t before n items r long d l a =
+decided_then {A} t before n items r long d l a =
     let q : (is : List Item) → AllByRecursion IsLine is → t ≡ list_text is → None ≡ refusal Text (list_checks is 38206) =
     λ is k e. d.lists is k e ∙ ap (λ (j : ℕ). refusal Text (list_checks is j)) long in
     let same : (is : List Item) → AllByRecursion IsLine is → t ≡ list_text is → items ≡ is = λ is k e. apart items is l.lines k (sym l.text ∙ e) in
@@ -125,3 +137,7 @@ decided_then t before n items r long d l a =
       lists = λ is k e. a ∙ ap uncoupled (same is k e) ∙ ap (λ (o : Option Refusal). or_else o (uncoupled is)) (q is k e);
       plain = λ is k e. a ∙ plain_told items l.fleet ∙ ap plainly (same is k e) ∙ ap (λ (o : Option Refusal). or_else o (plainly is)) (q is k e ∙ import_plainly is k);
     }
+
+-- the same refusal, of a call that answers something else
+pub decided_as : {A B : Type 0} {t : List ℕ} {r : Result A Refusal} (s : Result B Refusal) → refusal_of s ≡ refusal_of r → Decided t r → Decided t s
+decided_as s e d = record { breaks = λ f b. e ∙ d.breaks f b; lists = λ is k q. e ∙ d.lists is k q; plain = λ is k q. e ∙ d.plain is k q }

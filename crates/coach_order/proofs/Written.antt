@@ -1,13 +1,14 @@
 -- The operational vehicles, read back from a written composition.
-use Rattle.std.proofs.Common.{◌≡◌, ℕ, ◌+◌, ◌*◌, ◌≤◌, Bool, true, false, cond, List, [], ◌∷◌, ◌++◌, map, length, get_or, take, drop, unwrap_or, sym, refl, ap, ◌∙◌, subst, ap₂, mul-suc, arith, length-append}
+use Rattle.std.proofs.Common.{◌≡◌, ℕ, ◌+◌, ◌≤◌, Bool, true, false, cond, List, [], ◌∷◌, ◌++◌, map, length, get_or, take, drop, unwrap_or, Option, refl, ap, ◌∙◌, ap₂, arith, length-append}
 use Rattle.std.specs.List.{AllByRecursion}
-use Rattle.std.proofs.lemmas.List.{take_at, drop_at, get_or-append_right, append-nil}
+use Rattle.std.proofs.lemmas.List.{take_at, drop_at, get_or-append_right}
 use Rattle.train.specs.declared.entries.Vehicle.{Vehicle}
 use Rattle.train.specs.declared.facing.Facing.{Facing}
-use Rattle.train.specs.declared.facing.Facing.TheVariants.{NotKnown, Direct, Inverse}
+use Rattle.train.specs.declared.facing.Facing.TheVariants.{NotKnown}
 use Rattle.train.specs.declared.identity.Identity.{Identity}
 use Rattle.train.specs.Facings.{code, coded}
 use Rattle.train.specs.Identities.{same_identity}
+use Rattle.train.proofs.Facings.{facing_laws}
 use Rattle.fleet.specs.Fleets.{Meaning}
 use Rattle.bench.specs.Facts.{Facts}
 use Rattle.directory.specs.declared.cars.Car.{Car}
@@ -18,29 +19,7 @@ use Rattle.directory.proofs.Cut.{behind_rows, entry_row_long}
 use Rattle.directory.proofs.Runs.{length-seats}
 use Rattle.directory.proofs.Vocabulary.{Sixteen}
 use Rattle.coach_order.specs.Orders.{vehicle_of}
-use Rattle.coach_order.specs.Reads.{Section, Sections, row_vehicle, row_vehicles, vehicles_read}
-
--- how long rows of one size are together
-module _ {X : Type 0} (Ok : X → Type 0) (row : ℕ → X → List ℕ) (k : ℕ) (fixed : (n : ℕ) (x : X) → Ok x → length (row n x) ≡ k) where
-  rows_long : (n : ℕ) (xs : List X) → AllByRecursion Ok xs → length (rows row n xs) ≡ k * length xs
-  rows_long n [] h = let z : k * 0 ≡ 0 = omega arith in sym z
-  rows_long n (x ∷ xs) h =
-      let a = length-append (row n x) (rows row (n + 1) xs) in
-      let b = fixed n x h.0 in
-      let d = rows_long (n + 1) xs h.1 in
-      let e = mul-suc k (length xs) in
-      omega arith
-
-  section_stands : (xs : List X) (s : List ℕ) → AllByRecursion Ok xs → Section k (section row xs ++ s)
-  section_stands xs s h =
-      let a = length-append (rows row 1 xs) s in
-      let b = rows_long 1 xs h in
-      omega arith
-
-facing_back : (f : Facing) → unwrap_or (coded (code f)) NotKnown ≡ f
-facing_back NotKnown = refl
-facing_back Direct = refl
-facing_back Inverse = refl
+use Rattle.coach_order.specs.Reads.{row_vehicle, row_vehicles, vehicles_read}
 
 -- each vehicle of an operational order stands in one row, in that order
 seats_told : (n : ℕ) (x : Identity) (cs : List Car) → map (λ s. vehicle_of s.car) (seats n x cs) ≡ map vehicle_of cs
@@ -70,7 +49,7 @@ module _ (f : Facts) (m : Meaning) where
       let a : take 16 (row n s) ≡ s.car.name.bytes = take_at s.car.name.bytes rest 16 h in
       let b : get_or (row n s) 20 0 ≡ code s.car.facing = get_or-append_right s.car.name.bytes rest 16 20 0 h le in
       ap₂ (λ (bs : List ℕ) (g : Facing). let v : Vehicle = record { name = record { bytes = bs }; facing = g } in v) a
-      (ap (λ (k : ℕ). unwrap_or (coded k) NotKnown) b ∙ facing_back s.car.facing)
+      (ap (λ (k : ℕ). unwrap_or (coded k) NotKnown) b ∙ ap (λ (o : Option Facing). unwrap_or o NotKnown) (facing_laws.reads s.car.facing))
 
   rows_back : (n : ℕ) (ss : List Seat) → AllByRecursion (λ s. Sixteen s.car.name.bytes) ss → row_vehicles (length ss) (rows row n ss) ≡ map (λ s. vehicle_of s.car) ss
   rows_back n [] h = refl
@@ -97,15 +76,6 @@ module _ (f : Facts) (m : Meaning) where
     pub read_back : vehicles_read (composition f m) ≡ map vehicle_of (operational f m)
     read_back =
         ap (λ (x : List ℕ). row_vehicles (get_or x 0 0) (drop 1 x)) vehicles_at ∙ rows_back 1 ss i ∙ seats_told 0 nobody (operational f m)
-
-    pub sections_stand : Sections (composition f m)
-    sections_stand =
-        record {
-          long = omega arith;
-          train = section_stands (λ e. Sixteen e.identity.bytes) (entry_row m) 24 (entry_row_long m) f.formation (operational_part f m) h;
-          consist = subst (λ (x : List ℕ). Section 20 x) (sym consists_at) (section_stands (λ c. Sixteen c.consist.bytes) (consist_row (consist_number f)) 20 consist_long fs (section row ss) g);
-          vehicle = subst (λ (x : List ℕ). Section 24 x) (append-nil (section row ss) ∙ sym vehicles_at) (section_stands (λ s. Sixteen s.car.name.bytes) row 24 row_long ss [] i);
-        }
 
     pub count_told : get_or (vehicles (composition f m)) 0 0 ≡ length (operational f m)
     count_told = ap (λ (x : List ℕ). get_or x 0 0) vehicles_at ∙ length-seats 0 nobody (operational f m)

@@ -20,14 +20,19 @@ pub record Lists (t : List ℕ) (is : List Item) : Type 0 where
   pub fleet : IsFleet is
   pub text : t ≡ list_text is
 
--- The vehicles of all consists of the list, one after another, are laid out at the front. That is the order in which the
--- composition has them.
-pub record Laid (t : List ℕ) (before : List Vehicle) (n : ℕ) (after : List Vehicle) : Type 0 where
+-- The vehicles of all consists of the list, one after another. That is the order in which the composition has them.
+pub record IsOrder (t : List ℕ) (vehicles : List Vehicle) : Type 0 where
   pub items : List Item
   pub list : Lists t items
   pub coupled : uncoupled items ≡ None
   pub composed : map vehicle_of (operational (facts_of items) (meaning_of items)) ≡ vehicles_in items
-  pub wrote : Written (vehicles_in items) before n after
+  pub order : vehicles ≡ vehicles_in items
+
+-- the order is laid out at the front
+pub record Laid (t : List ℕ) (before : List Vehicle) (n : ℕ) (after : List Vehicle) : Type 0 where
+  pub vehicles : List Vehicle
+  pub order : IsOrder t vehicles
+  pub wrote : Written vehicles before n after
 
 -- the consists of the list cannot be coupled in this order
 pub record Uncoupled (t : List ℕ) (f : Refusal) : Type 0 where
@@ -47,7 +52,7 @@ Ordered t before after (Err f) = (after ≡ before) × Refused t f
 
 -- Every text breaks at one place, or is the list of some lines; what it is decides the answer: import's refusal, or else
 -- that of inaugurate, or else that of compose. The same in plain words.
-pub record Decided (t : List ℕ) (r : Result ℕ Refusal) : Type 0 where
+pub record Decided {A : Type 0} (t : List ℕ) (r : Result A Refusal) : Type 0 where
   pub breaks : (f : Refusal) → Broken t f → refusal_of r ≡ Some f
   pub lists : (is : List Item) → AllByRecursion IsLine is → t ≡ list_text is → refusal_of r ≡ or_else (refusal Text (list_checks is 38206)) (uncoupled is)
   pub plain : (is : List Item) → AllByRecursion IsLine is → t ≡ list_text is → refusal_of r ≡ refusal_of_list is

@@ -1,22 +1,11 @@
 -- The operational vehicles, read from the bytes of a composition.
-use Rattle.std.specs.Prelude.{ℕ, ◌+◌, ◌*◌, ◌≤◌, List, map, length, take, drop, slice_index}
+use Rattle.std.specs.Prelude.{ℕ, List, map, take, drop, slice_index}
 use Rattle.std.specs.Option.{unwrap_or}
 use Rattle.train.specs.declared.entries.Vehicle.{Vehicle}
 use Rattle.train.specs.declared.facing.Facing.TheVariants.{NotKnown}
 use Rattle.train.specs.Facings.{coded}
 use Rattle.fleet.specs.Rows.{rows}
-use Rattle.directory.specs.Part.{consists, vehicles}
-
--- a section begins here: a count, and so many rows of w bytes
-abbrev pub Section : ℕ → List ℕ → Type 0
-Section w bs = 1 + w * slice_index bs 0 ≤ length bs
-
--- three sections stand behind sixteen bytes
-pub record Sections (bs : List ℕ) : Type 0 where
-  pub long : 16 ≤ length bs
-  pub train : Section 24 (drop 16 bs)
-  pub consist : Section 20 (consists bs)
-  pub vehicle : Section 24 (vehicles bs)
+use Rattle.directory.specs.Part.{vehicles}
 
 -- the name and the facing of a row
 abbrev pub row_vehicle : List ℕ → Vehicle

@@ -5,3 +5,4 @@ mod coupling;
 pub mod order;
 pub mod page;
 mod section;
+mod show;

@@ -3,10 +3,14 @@
 
 #[cfg(test)]
 mod tests {
+    use coach_order::order::{coach_order, order_from_head};
     use coach_order::page::{MOST, page};
     use std::alloc::{AllocError, Global};
+    use std::fmt::Write;
     use std::process::Abort;
     use std::test::Fail;
+    use train::entries::Vehicle;
+    use train::facing::Facing;
 
     // The page of a list is this text.
     fn prints(rt: &impl Abort, heap: Global, list: &str, text: &str) -> Result<(), Fail> {
@@ -18,15 +22,12 @@ mod tests {
     // A list of `count` consists of `each` vehicles; the k-th vehicle of the i-th consist has the name i.k.
     fn list_of(heap: Global, count: usize, each: usize) -> Result<String, AllocError> {
         let mut list = String::new(heap);
-        for i in 0..count {
-            let n = i + 1;
-            let head = format!(in heap; "{n:032x} 7")?;
-            list.push_str(head.as_str())?;
+        for n in 1..=count {
+            write!(list, "{n:032x} 7")?;
             for k in 0..each {
-                let name = format!(in heap; " \"{n}.{k}\"+")?;
-                list.push_str(name.as_str())?;
+                write!(list, " \"{n}.{k}\"+")?;
             }
-            list.push_str("\n")?;
+            writeln!(list)?;
         }
         Ok(list)
     }
@@ -40,15 +41,9 @@ mod tests {
         lines: usize,
     ) -> Result<(), Fail> {
         let page = page(heap, list.as_bytes())?;
-        let mut ends = 0usize;
-        for byte in page.as_slice() {
-            if *byte == b'\n' {
-                ends = ends.wrapping_add(1);
-            }
-        }
+        let ends = page.iter().filter(|byte| **byte == b'\n').count();
         assert_eq!(rt; ends, lines);
-        assert!(rt; text.len() <= page.len());
-        assert_eq!(rt; &page.as_slice()[0..text.len()], text.as_bytes());
+        assert!(rt; page.starts_with(text.as_bytes()));
         Ok(())
     }
 
@@ -58,6 +53,25 @@ mod tests {
             "00000000000000000000000000000001 7 \"A\"+ \"B\\\"2\"-\n00000000000000000000000000000002 9 \"C\\\\\"+\n00000000000000000000000000000100 1 \"D 4\"- \"E\"- \"F\"+\n";
         let text = "vehicles 6\n01 + A\n02 - B\"2\n03 + C\\\n04 - D 4\n05 - E\n06 + F\n";
         prints(&rt, rt.alloc(), list, text)
+    }
+
+    // The order of a list is a vector, and is laid out at the front of a slice.
+    #[test]
+    fn order_of_a_list(rt: HostRuntime) -> Result<(), Fail> {
+        let list =
+            "00000000000000000000000000000001 7 \"A\"+ \"B\"-\n00000000000000000000000000000002 9 \"C\"+\n";
+        let mut vehicles = [Vehicle::default(); 63];
+        let count = coach_order(list.as_bytes(), &mut vehicles).expect(&rt, "an order");
+        assert_eq!(rt; count, 3);
+        let order = order_from_head(list.as_bytes()).expect(&rt, "an order");
+        assert_eq!(rt; order.len(), 3);
+        for (vehicle, laid) in order.iter().zip(vehicles) {
+            assert!(rt; vehicle.name == laid.name);
+            assert_eq!(rt; vehicle.facing, laid.facing);
+        }
+        assert_eq!(rt; vehicles[1].facing, Facing::Inverse);
+        assert_eq!(rt; vehicles[2].name.bytes[0], b'C');
+        Ok(())
     }
 
     #[test]

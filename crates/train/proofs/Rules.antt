@@ -33,12 +33,12 @@ module _ {A : Type 0} (rule : Rule A) (reason : Reason) (xs : List A) (i : ℕ) 
 
 -- a rule seen through a function
 module _ {A B : Type 0} (f : A → B) (rule : Rule A) (other : Rule B) (same : (before : List A) (x : A) → rule before x ≡ other (map f before) (f x)) where
-  keeps-map : (before xs : List A) → keeps rule before xs ≡ keeps other (map f before) (map f xs)
+  pub keeps-map : (before xs : List A) → keeps rule before xs ≡ keeps other (map f before) (map f xs)
   keeps-map before [] = refl
   keeps-map before (x ∷ xs) =
       ap₂ ◌&&◌ (same before x) (keeps-map (before ++ x ∷ []) xs ∙ ap (λ (b : List B). keeps other b (map f xs)) (map-append f before (x ∷ [])))
 
-  breach-map : (before xs : List A) → first_breach rule before xs ≡ first_breach other (map f before) (map f xs)
+  pub breach-map : (before xs : List A) → first_breach rule before xs ≡ first_breach other (map f before) (map f xs)
   breach-map before [] = refl
   breach-map before (x ∷ xs) =
       ap (λ (b : Bool). cond b (first_breach rule (before ++ x ∷ []) xs) (length before + 1)) (same before x)

@@ -1,7 +1,10 @@
-use Rattle.std.proofs.Common.{◌≡◌, ◌≤◌, ◌++◌, map, length, take, drop}
+use Rattle.std.proofs.Common.{◌-◌, length}
 use Rattle.fleet.specs.Held.{held}
-use Rattle.coach_order.specs.Orders.{direct}
+use Rattle.coach_order.proofs.Coupled.{Coupling}
 use Rattle.coach_order.proofs.coupling.couple_all.Given as goal
 
-abbrev pub invariant-loop-k : goal.invariant-loop-k
-invariant-loop-k l = (l.entries ≡ map direct (take l.k (held l.book)) ++ drop l.k l.initial.entries) × (l.k ≤ length (held l.book))
+abbrev pub invariant-loop-identity : goal.invariant-loop-identity
+invariant-loop-identity l = Coupling (held l.book) l.entries.items
+
+abbrev pub decreases-loop-identity : goal.decreases-loop-identity
+decreases-loop-identity l = length (held l.book) - length l.entries.items

@@ -1,28 +1,10 @@
-use Rattle.std.proofs.Common.{sym, refl, ap, ◌∙◌}
+use Rattle.std.proofs.Common.{Some, ap, ◌∙◌}
 use Rattle.std.proofs.lemmas.Result.{err_from_is_err_and}
-use Rattle.coach_order.specs.Orders.{uncoupled}
-use Rattle.coach_order.proofs.Ready.{book_lent, list_of, ordered, import_refused, decided_first, decided_then}
+use Rattle.train.specs.Refusals.{refusal_of}
+use Rattle.coach_order.proofs.Ready.{decided_as}
 use Rattle.coach_order.proofs.order.coach_order.Goals as goal
 
-pub returns-in_err-length : goal.returns-in_err-length
-returns-in_err-length c =
+pub returns-in_err-order-clause-decided : goal.returns-in_err-order-clause-decided
+returns-in_err-order-clause-decided c =
     let p = err_from_is_err_and c.from_residual.result c.from_residual.ensures.1 in
-    rw (p.1, p.2)
-    (record {
-      answer = (refl, import_refused c.args.list.now _ c.in_err-length.ensures.answer.1);
-      decided = decided_first c.args.list.now _ _ refl c.in_err-length.ensures.decided;
-    })
-
-pub returns-in_err-open : goal.returns-in_err-open
-returns-in_err-open c =
-    let i = c.in_ok-length.ensures.answer in
-    absurd (c.in_err-open.ensures.exactly i.items (book_lent i))
-
-pub returns : goal.returns
-returns c =
-    let i = c.in_ok-length.ensures.answer in
-    let e = c.in_ok-open.ensures.exactly.only i.items (book_lent i) in
-    record {
-      answer = ordered c.args.list.now c.args.vehicles.now _ i.items _ c.compose_all.result (list_of i) e c.compose_all.ensures.answer c.compose_all.ensures.laid;
-      decided = decided_then c.args.list.now _ _ i.items c.compose_all.result refl c.in_ok-length.ensures.decided (list_of i) (c.compose_all.ensures.answer ∙ ap uncoupled (sym e));
-    }
+    decided_as c.from_residual.result (ap refusal_of p.1 ∙ ap Some p.2) c.in_err-order.ensures.decided
