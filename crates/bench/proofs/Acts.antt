@@ -1,5 +1,6 @@
 -- What a call that was carried out, or refused, does to the facts.
-use Rattle.std.proofs.Common.{◌≡◌, ℕ, ◌≤◌, List, [], length, get_or, set, replicate, Some, None, Option, sym, arith}
+use Rattle.std.proofs.Common.{◌≡◌, ℕ, ◌≤◌, List, [], ◌++◌, length, get_or, take, set, replicate, Some, None, Option, sym, refl, ap, ◌∙◌, arith}
+use Rattle.std.proofs.lemmas.List.{take_at}
 use Rattle.train.specs.declared.identity.Identity.{Identity}
 use Rattle.train.specs.declared.name.Name.{Name}
 use Rattle.train.specs.declared.entries.Coupled.{Coupled}
@@ -31,6 +32,10 @@ module _ (x : Identity) (es : List Coupled) (table : List (Option Claim)) (i : �
 
   pub claim_read : (k : Option Claim) → get_or table i k ≡ kept es table x
   claim_read k = sym (kept_at x es table i _ k p.inside (omega (arith, few, long)) p.here p.first)
+
+-- what was copied to the front of a table is what was lent
+pub front_copied : {A : Type 0} (xs copied rest : List A) → copied ≡ xs → take (length xs) (copied ++ rest) ≡ xs
+front_copied xs copied rest e = ap (λ z. take (length xs) (z ++ rest)) e ∙ take_at xs rest (length xs) refl
 
 -- what stands once a formation is inaugurated
 pub fresh_facts : (es : List Coupled) (etb : ℕ) (formation : List Coupled) (names : List Name) → es ≡ formation → names ≡ []

@@ -1,6 +1,7 @@
 -- The place of a consist in a formation, and the claim that is kept there.
-use Rattle.std.proofs.Common.{◌≡◌, ℕ, zero, suc, ◌+◌, ◌<◌, ◌≤◌, Bool, true, false, List, [], ◌∷◌, length, get_or, take, set, replicate, cond, Some, None, Option, MatchOption, subst, sym, refl, ap, ◌∙◌, le_of_suc-le-suc, arith}
+use Rattle.std.proofs.Common.{◌≡◌, ℕ, zero, suc, ◌+◌, ◌<◌, ◌≤◌, Bool, true, false, List, [], ◌∷◌, ◌++◌, length, get_or, take, set, replicate, cond, Some, None, Option, MatchOption, subst, sym, refl, ap, ◌∙◌, le_of_suc-le-suc, arith}
 use mathlib.Core.Path.{fun_ext}
+use Rattle.std.proofs.lemmas.List.{take_more}
 use Rattle.std.proofs.lemmas.Iterator.Adapters.{position_from-zero}
 use Rattle.std.specs.List.{position, position_from}
 use Rattle.train.specs.declared.identity.Identity.{Identity}
@@ -11,6 +12,19 @@ use Rattle.train.proofs.Equal.{same_identity_decides, same_identity_sym}
 use Rattle.bench.specs.declared.claims.Claim.{Claim}
 use Rattle.bench.specs.Facts.{coupled_in, put, Place}
 use Rattle.bench.specs.Table.{kept}
+
+in_push : (x : Identity) (es : List Coupled) (e : Coupled) → coupled_in x es ≡ false → same_identity x e.identity ≡ false → coupled_in x (es ++ e ∷ []) ≡ false
+in_push x [] e h k = rw k
+in_push x (d ∷ es) e h k = by (same_identity x d.identity) refl (λ g. in_push x es e g k)
+  where
+    by : (b : Bool) → same_identity x d.identity ≡ b → (coupled_in x es ≡ false → coupled_in x (es ++ e ∷ []) ≡ false) → coupled_in x ((d ∷ es) ++ e ∷ []) ≡ false
+    by true q f = nowhere (sym (rw q at h))
+    by false q f = rw q (f (rw q at h))
+
+-- one entry more is not the consist's
+pub in_more : (x : Identity) (es : List Coupled) (i : ℕ) (d : Coupled) → i < length es → same_identity x (get_or es i d).identity ≡ false
+    → coupled_in x (take i es) ≡ false → coupled_in x (take (i + 1) es) ≡ false
+in_more x es i d h k e = rw (take_more es i d) (in_push x (take i es) (get_or es i d) e k)
 
 -- a consist with a place is in the formation
 pub in_at : (x : Identity) (es : List Coupled) (i : ℕ) (d : Coupled) → i < length es → same_identity x (get_or es i d).identity ≡ true → coupled_in x es ≡ true

@@ -1,5 +1,5 @@
 -- What the questions answer, by the meaning.
-use Rattle.std.proofs.Common.{◌≡◌, ℕ, ◌≤◌, true, List, [], ◌∷◌, length, is_some, Some, None, Option, refl, ap, ◌∙◌, arith}
+use Rattle.std.proofs.Common.{◌≡◌, ℕ, ◌≤◌, true, List, [], ◌∷◌, length, is_some, Some, None, Option, sym, refl, ap, ◌∙◌, arith}
 use Rattle.std.specs.List.{slice_get}
 use Rattle.train.specs.declared.entries.Vehicle.{Vehicle}
 use Rattle.fleet.specs.declared.questions.Found.{Found}
@@ -36,3 +36,7 @@ last_found (Some c) f e =
 pub last_present : (o : Option Consist) (f : Found) → Lawful o → Some f ≡ found_in o → is_some (last_of (vehicles_of o)) ≡ is_some o
 last_present None f l e = refl
 last_present (Some c) f l e = some_last c.vehicles l.some
+
+pub none_found : (o : Option Consist) → None ≡ found_in o → o ≡ None
+none_found None e = refl
+none_found (Some c) e = never _ (sym e)

@@ -1,3 +1,4 @@
+pub mod Finds
 pub mod Found
 pub mod Crowds
 pub mod Answered

@@ -51,13 +51,16 @@ pub none_parts : (b : Bool) (n : ℕ) (o : Option ℕ) → cond b (Some n) o ≡
 none_parts true n o e = never n e
 none_parts false n o e = (refl, e)
 
+pub answers : (id other : Identity) (q : Seat) → q.identity ≡ id → is_here other q ≡ same_id id other
+answers id other q own = ap (λ x. same_id x other) own
+
 absent_go : (b : Bool) (n : ℕ) (o : Option ℕ) (c : Consist) (m : Option Consist) → is_some o ≡ is_some m → is_some (cond b (Some n) o) ≡ is_some (cond b (Some c) m)
 absent_go true n o c m e = refl
 absent_go false n o c m e = e
 
 module _ (id other : Identity) (q : Seat) (own : q.identity ≡ id) where
   hq : is_here other q ≡ same_id id other
-  hq = ap (λ x. same_id x other) own
+  hq = answers id other q own
 
   -- the changed seat itself
   hit : (p : Seat) (m : Option Consist) (s : Bool) → same_id id other ≡ s → (s ≡ false → is_here other p ≡ false) → cond (is_here other q) (Some (consist_in q)) m ≡ cond s (Some (consist_in q)) (cond (is_here other p) (Some (consist_in p)) m)

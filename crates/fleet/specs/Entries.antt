@@ -1,10 +1,10 @@
 -- Rows of a book, and one row more in a loop over them.
-use Rattle.std.specs.Prelude.{◌≡◌, ℕ, zero, suc, ◌+◌, ◌*◌, ◌<◌, ◌≤◌, Bool, true, false, cond, List, [], ◌∷◌, ◌++◌, length, take, drop, Some, None, Option, slice_index_or, refl}
-use Rattle.std.proofs.Common.{sym, ap, ◌∙◌, arith, suc-mul, add_comm}
+use Rattle.std.specs.Prelude.{◌≡◌, ℕ, zero, suc, ◌+◌, ◌*◌, ◌<◌, ◌≤◌, Bool, true, false, cond, not, List, [], ◌∷◌, ◌++◌, length, take, drop, Some, None, Option, slice_index_or, refl}
+use Rattle.std.proofs.Common.{sym, ap, ap₂, ◌∙◌, arith, suc-mul, add_comm}
 use Rattle.std.specs.List.{sum_by}
 use Rattle.std.proofs.lemmas.List.Sums.{sum_by-cons}
 use Rattle.std.specs.Str.{bytes_eq}
-use Rattle.std.proofs.lemmas.List.{length-append, drop-drop, at_drop_more, at_drop_all}
+use Rattle.std.proofs.lemmas.List.{length-append, drop_more, drop-drop, take_more, at_drop_more, at_drop_all, get_or-take, get_or-drop, length-take-le, length-drop, take_all}
 use Rattle.train.specs.declared.refusal.Part.TheVariants.{Book}
 use Rattle.train.specs.declared.refusal.Part.{Part}
 use Rattle.train.specs.declared.refusal.Place.{Place}
@@ -12,8 +12,9 @@ use Rattle.train.specs.declared.refusal.Place.TheVariants.{At, InLine}
 use Rattle.train.specs.declared.refusal.Reason.{Reason}
 use Rattle.train.specs.declared.refusal.Reason.TheVariants.{Repeated}
 use Rattle.train.specs.declared.refusal.Refusal.{Refusal}
-use Rattle.train.specs.Refusals.{Check, Rule, first_breach, each, breach, or_else, refusal, fresh, by}
-use Rattle.fleet.specs.Rows.{rows, identity_of, size_of, name_of, last_identity, sizes, behind, apart_checks}
+use Rattle.train.specs.Refusals.{Check, Rule, first_breach, each, each_behind, breach, or_else, refusal, among, fresh, by}
+use Rattle.train.proofs.Rules.{each_past, each_here, each_all, among_past, among_here, among_none}
+use Rattle.fleet.specs.Rows.{rows, identity_of, size_of, name_of, last_identity, rises, ascending, sizes, behind, apart_checks}
 
 module _ (w : ℕ) where
   pub length-rows : (n : ℕ) (bs : List ℕ) → length (rows w n bs) ≡ n
@@ -30,6 +31,19 @@ module _ (w : ℕ) where
   pub in_rows : (n : ℕ) (bs : List ℕ) (i : ℕ) → i < n → i < length (rows w n bs)
   in_rows n bs i h = rw (length-rows n bs) h
 
+-- a loop that checks row after row; `r` is the row at i, as the code has it
+module _ (rule : Rule (List ℕ)) (reason : Reason) (w n : ℕ) (bs : List ℕ) (i : ℕ) where
+  pub row_past : (r : List ℕ) → i < n → r ≡ slice_index_or (rows w n bs) i [] → true ≡ rule (take i (rows w n bs)) r
+      → each_behind rule reason (take i (rows w n bs)) (drop i (rows w n bs)) ≡ each_behind rule reason (take (i + 1) (rows w n bs)) (drop (i + 1) (rows w n bs))
+  row_past r h q e = each_past rule reason (rows w n bs) i r [] q (in_rows w n bs i h) (sym e)
+
+  pub row_here : (r : List ℕ) → i < n → r ≡ slice_index_or (rows w n bs) i [] → false ≡ rule (take i (rows w n bs)) r
+      → breach Book (each_behind rule reason (take i (rows w n bs)) (drop i (rows w n bs))) ≡ Some (record { part = Book; reason = reason; place = At (i + 1) })
+  row_here r h q e = each_here rule reason (rows w n bs) i Book r [] q (in_rows w n bs i h) (sym e)
+
+  pub row_all : n ≤ i → breach Book (each_behind rule reason (take i (rows w n bs)) (drop i (rows w n bs))) ≡ None
+  row_all h = each_all rule reason (rows w n bs) i Book (rw (length-rows w n bs) h)
+
 sizes-append : (xs ys : List (List ℕ)) → sizes (xs ++ ys) ≡ sizes xs + sizes ys
 sizes-append [] ys = let z : sizes ys ≡ 0 + sizes ys = omega arith in z
 sizes-append (x ∷ xs) ys = let h = sizes-append xs ys in omega arith
@@ -45,6 +59,80 @@ pub last_added : (before : List (List ℕ)) (x : List ℕ) → last_identity (be
 last_added [] x = refl
 last_added (y ∷ []) x = refl
 last_added (y ∷ z ∷ zs) x = last_added (z ∷ zs) x
+
+module _ (n : ℕ) (bs : List ℕ) (i : ℕ) (r : List ℕ) (here : i < n) (is : r ≡ slice_index_or (rows 21 n bs) i []) where
+  pub last_more : (id : List ℕ) → id ≡ identity_of r → id ≡ last_identity (take (i + 1) (rows 21 n bs))
+  last_more id d =
+      let l = in_rows 21 n bs i here in
+      d ∙ ap identity_of is ∙ sym (ap last_identity (take_more (rows 21 n bs) i [] l) ∙ last_added (take i (rows 21 n bs)) (slice_index_or (rows 21 n bs) i []))
+
+  pub rise_told : (prior id : List ℕ) (b : Bool) → prior ≡ last_identity (take i (rows 21 n bs)) → id ≡ identity_of r → b ≡ rises prior id → b ≡ ascending (take i (rows 21 n bs)) r
+  rise_told prior id b p d e = e ∙ ap₂ rises p d
+
+  -- the vehicles of the rows before i + 1
+  pub sizes_more : sizes (take (i + 1) (rows 21 n bs)) ≡ sizes (take i (rows 21 n bs)) + size_of r
+  sizes_more =
+      let l = in_rows 21 n bs i here in
+      let a = sizes-append (take i (rows 21 n bs)) (slice_index_or (rows 21 n bs) i [] ∷ []) in
+      let b = ap sizes (take_more (rows 21 n bs) i [] l) in
+      let s = ap size_of is in
+      omega arith
+
+pub sizes_whole : (n : ℕ) (bs : List ℕ) → sizes (take n (rows 21 n bs)) ≡ sizes (rows 21 n bs)
+sizes_whole n bs = let l = length-rows 21 n bs in ap sizes (take_all n (rows 21 n bs) (omega arith))
+
+-- a part of the vehicle rows: k rows behind `from` others
+module _ (n : ℕ) (bs : List ℕ) (from k : ℕ) (fit : from + k ≤ n) where
+  part_long : length (take k (drop from (rows 17 n bs))) ≡ k
+  part_long =
+      let l = length-drop from (rows 17 n bs) in
+      let m = length-rows 17 n bs in
+      length-take-le k (drop from (rows 17 n bs)) (omega arith)
+
+  part_at : (j : ℕ) (r : List ℕ) → j < k → r ≡ slice_index_or (rows 17 n bs) (from + j) [] → r ≡ slice_index_or (take k (drop from (rows 17 n bs))) j []
+  part_at j r h q = q ∙ sym (get_or-take k (drop from (rows 17 n bs)) j [] h ∙ get_or-drop from (rows 17 n bs) j [])
+
+  -- the loop that looks for a name
+  module _ (x : List ℕ) (j : ℕ) where
+    pub name_past : (r : List ℕ) → j < k → r ≡ slice_index_or (rows 17 n bs) (from + j) [] → false ≡ bytes_eq (name_of x) (name_of r)
+        → among (by bytes_eq name_of) x (drop j (take k (drop from (rows 17 n bs)))) ≡ among (by bytes_eq name_of) x (drop (j + 1) (take k (drop from (rows 17 n bs))))
+    name_past r h q e = among_past (by bytes_eq name_of) x (take k (drop from (rows 17 n bs))) j r [] (part_at j r h q) (rw part_long h) (sym e)
+
+    pub name_here : (r : List ℕ) → j < k → r ≡ slice_index_or (rows 17 n bs) (from + j) [] → true ≡ bytes_eq (name_of x) (name_of r)
+        → among (by bytes_eq name_of) x (drop j (take k (drop from (rows 17 n bs)))) ≡ true
+    name_here r h q e = among_here (by bytes_eq name_of) x (take k (drop from (rows 17 n bs))) j r [] (part_at j r h q) (rw part_long h) (sym e)
+
+    pub name_none : k ≤ j → among (by bytes_eq name_of) x (drop j (take k (drop from (rows 17 n bs)))) ≡ false
+    name_none h = among_none (by bytes_eq name_of) x (take k (drop from (rows 17 n bs))) j (rw part_long h)
+
+  -- the loop over the names of one consist
+  front : (j : ℕ) → j ≤ k → take j (take k (drop from (rows 17 n bs))) ≡ take j (drop from (rows 17 n bs))
+  front j h = take-take j k (drop from (rows 17 n bs)) h
+
+  told : (j : ℕ) (b : Bool) → j < k → b ≡ among (by bytes_eq name_of) (slice_index_or (rows 17 n bs) (from + j) []) (take j (drop from (rows 17 n bs)))
+      → fresh (by bytes_eq name_of) (take j (take k (drop from (rows 17 n bs)))) (slice_index_or (rows 17 n bs) (from + j) []) ≡ not b
+  told j b h e = ap (λ (ys : List (List ℕ)). fresh (by bytes_eq name_of) ys (slice_index_or (rows 17 n bs) (from + j) [])) (front j (omega arith)) ∙ ap not (sym e)
+
+  pub apart_past : (j : ℕ) → j < k → false ≡ among (by bytes_eq name_of) (slice_index_or (rows 17 n bs) (from + j) []) (take j (drop from (rows 17 n bs)))
+      → each_behind (fresh (by bytes_eq name_of)) Repeated (take j (take k (drop from (rows 17 n bs)))) (drop j (take k (drop from (rows 17 n bs))))
+      ≡ each_behind (fresh (by bytes_eq name_of)) Repeated (take (j + 1) (take k (drop from (rows 17 n bs)))) (drop (j + 1) (take k (drop from (rows 17 n bs))))
+  apart_past j h e =
+      each_past (fresh (by bytes_eq name_of)) Repeated (take k (drop from (rows 17 n bs))) j (slice_index_or (rows 17 n bs) (from + j) []) [] (part_at j _ h refl) (rw part_long h) (told j false h e)
+
+  pub apart_here : (j : ℕ) → j < k → true ≡ among (by bytes_eq name_of) (slice_index_or (rows 17 n bs) (from + j) []) (take j (drop from (rows 17 n bs)))
+      → breach Book (behind from (each_behind (fresh (by bytes_eq name_of)) Repeated (take j (take k (drop from (rows 17 n bs)))) (drop j (take k (drop from (rows 17 n bs))))))
+      ≡ Some (record { part = Book; reason = Repeated; place = At (from + (j + 1)) })
+  apart_here j h e =
+      let ws = take k (drop from (rows 17 n bs)) in
+      let l : j < length (take k (drop from (rows 17 n bs))) = rw part_long h in
+      let t : fresh (by bytes_eq name_of) (take j (take k (drop from (rows 17 n bs)))) (slice_index_or (take k (drop from (rows 17 n bs))) j []) ≡ false =
+      ap (fresh (by bytes_eq name_of) (take j ws)) (sym (part_at j (slice_index_or (rows 17 n bs) (from + j) []) h refl)) ∙ told j true h e in
+      let m : length (take j (take k (drop from (rows 17 n bs)))) ≡ j = length-take-le j ws (omega arith) in
+      rw (drop_more (take k (drop from (rows 17 n bs))) j [], t, m)
+
+  pub apart_all : (j : ℕ) → k ≤ j → breach Book (behind from (each_behind (fresh (by bytes_eq name_of)) Repeated (take j (take k (drop from (rows 17 n bs)))) (drop j (take k (drop from (rows 17 n bs)))))) ≡ None
+  apart_all j h =
+      at_drop_all (λ ws. breach Book (behind from (each_behind (fresh (by bytes_eq name_of)) Repeated (take j (take k (drop from (rows 17 n bs)))) ws))) (take k (drop from (rows 17 n bs))) j (rw part_long h)
 
 pub sizes_is : (rs : List (List ℕ)) → sum_by size_of rs ≡ sizes rs
 sizes_is [] = refl

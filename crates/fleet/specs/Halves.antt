@@ -142,6 +142,21 @@ module _ (rs : List (List ℕ)) (id : List ℕ) (e : keeps ascending [] rs ≡ t
   pair : (i j : ℕ) → i < j → j < length rs → below (identity_of (slice_index_or rs i [])) (identity_of (slice_index_or rs j [])) ≡ true
   pair i j l h = pair_at Under rs [] i j (ascent [] rs e).pairs l h
 
+  pub half_up : (m : ℕ) → m < length rs → below (identity_of (slice_index_or rs m [])) id ≡ true → (j : ℕ) → j < m + 1 → below (identity_of (slice_index_or rs j [])) id ≡ true
+  half_up m h k j l =
+      elim (cases_eq j m) [
+        | inl q ↦ ap (λ (x : ℕ). below (identity_of (slice_index_or rs x [])) id) q ∙ k
+        | inr q ↦ below_trans (identity_of (slice_index_or rs j [])) (identity_of (slice_index_or rs m [])) id (pair j m (omega arith) h) k
+      ]
+
+  pub half_down : (m : ℕ) → m < length rs → below (identity_of (slice_index_or rs m [])) id ≡ false → is_at id (slice_index_or rs m []) ≡ false → (j : ℕ) → m ≤ j → j < length rs → below id (identity_of (slice_index_or rs j [])) ≡ true
+  half_down m h k s j l b =
+      let g = below_other (identity_of (slice_index_or rs m [])) id k s in
+      elim (cases_eq j m) [
+        | inl q ↦ ap (λ (x : ℕ). below id (identity_of (slice_index_or rs x []))) q ∙ g
+        | inr q ↦ below_trans id (identity_of (slice_index_or rs m [])) (identity_of (slice_index_or rs j [])) g (pair m j (omega arith) b)
+      ]
+
   pub half_hit : (m : ℕ) → m < length rs → is_at id (slice_index_or rs m []) ≡ true → place_of id 0 rs ≡ Some m
   half_hit m h s =
       let q : identity_of (slice_index_or rs m []) ≡ id = (bytes_eq-Decides (identity_of (slice_index_or rs m [])) id).0 s in

@@ -16,11 +16,16 @@ use Rattle.fleet.specs.declared.questions.Found.{Found}
 use Rattle.fleet.specs.Fleets.{Consist, Lawful, found_in, vehicles_of, vehicle_in}
 use Rattle.fleet.specs.Rows.{rows, counter_of, size_of, name_of, sizes}
 use Rattle.fleet.specs.Seeks.{find, is_at, place_of}
-use Rattle.fleet.specs.Books.{count_of, tail_of, table_of, Item, meaning_of, vehicle_of, item_of, listed, vehicles_in, name_in, name_at, IsItem, Rising}
+use Rattle.fleet.specs.Books.{count_of, entries_of, tail_of, total_of, table_of, Item, meaning_of, vehicle_of, item_of, listed, fleet_of, vehicles_in, name_in, name_at, IsItem, Rising}
 use Rattle.fleet.specs.Heads.{never}
 use Rattle.fleet.specs.Entries.{rows_at, take-take}
 use Rattle.fleet.specs.Halves.{same_self, above_apart}
 use Rattle.fleet.specs.Readings.{none_left}
+
+-- the fleet of the bytes, by their parts
+pub held_is : (bs entries table : List ℕ) (count total : ℕ) → count ≡ count_of bs → entries ≡ entries_of bs → total ≡ total_of bs → table ≡ table_of bs
+    → fleet_of bs ≡ listed (rows 21 count entries) (rows 17 total table)
+held_is bs entries table count total c e t v = ap₂ listed (ap₂ (rows 21) (sym c) (sym e)) (ap₂ (rows 17) (sym t) (sym v))
 
 -- the consist at a place
 abbrev consist_at : List (List ℕ) → List (List ℕ) → ℕ → Consist

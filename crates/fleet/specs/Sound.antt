@@ -1,8 +1,10 @@
 -- A consist that passes its checks is lawful, and so is what the seats mean.
-use Rattle.std.specs.Prelude.{◌≡◌, ℕ, zero, suc, ◌+◌, ◌≤◌, Bool, true, false, cond, not, ◌&&◌, List, [], ◌∷◌, ◌++◌, filter, length, is_some, Some, None, Option, ◌==◌, nat_le, slice_index_or, slice_set, refl}
+use Rattle.std.specs.Prelude.{◌≡◌, ℕ, zero, suc, ◌+◌, ◌≤◌, Bool, true, false, cond, not, ◌&&◌, List, [], ◌∷◌, ◌++◌, filter, length, drop, is_some, Some, None, Option, ◌==◌, nat_le, slice_index_or, slice_set, refl}
 use Rattle.std.proofs.Common.{sym, ap, ◌∙◌, arith}
+use borrow.Rule.Slice.PartMut.{post_of}
 use Rattle.std.specs.List.{AllByRecursion}
 use Rattle.std.specs.Str.{bytes_eq}
+use Rattle.std.proofs.lemmas.List.{length-append, length-drop}
 use Rattle.std.proofs.lemmas.Bool.{and_parts, and_from, not-true, leb-true, le-leb}
 use Rattle.train.specs.declared.entries.Vehicle.{Vehicle}
 use Rattle.train.specs.declared.identity.Identity.{Identity}
@@ -118,3 +120,11 @@ seat_is id ss i d e = let z : i ≡ 0 + i = omega arith in (at_seat id d 0 ss i 
 pub seat_none : (id : Identity) (n : ℕ) (ss : List Seat) → find (is_here id) n ss ≡ None → meaning_in ss id ≡ None
 seat_none id n [] e = refl
 seat_none id n (s ∷ ss) e = none_go (is_here id s) n (find (is_here id) (n + 1) ss) _ _ e (λ q. seat_none id (n + 1) ss q)
+
+-- the array after a copy to its front is as long as it was
+pub copied_whole : (part from xs : List Vehicle) (k : ℕ) → part ≡ from → k ≡ length from → length from ≤ 32 → length xs ≡ 32 → length (part ++ post_of 0 k xs) ≡ 32
+copied_whole part from xs k e q h l =
+    let a = length-append part (drop k xs) in
+    let b = length-drop k xs in
+    let c = ap length e in
+    omega arith

@@ -61,3 +61,7 @@ written_none xs = record { wrote = refl; long = refl; fits = omega arith }
 -- the same bytes in other words
 pub same_text : {a b xs out : List ℕ} {n : ℕ} → a ≡ b → Written a xs n out → Written b xs n out
 same_text {a} {b} {xs} {out} {n} e f = subst (λ z. Written z xs n out) e f
+
+-- what is lent of `out[at..]`
+pub lent_fits : (out : List ℕ) (at n : ℕ) → at ≤ length out → n ≤ length (take (length out - at) (drop at out)) → at + n ≤ length out
+lent_fits out at n l h = omega (arith, take_room out at (length out - at) refl)

@@ -1,14 +1,35 @@
 -- What opening says of the bytes of a book, and how long the list of its fleet can be.
-use Rattle.std.proofs.Common.{◌*◌, ◌^◌, ◌<◌, ◌≤◌, List, [], ◌∷◌, ◌++◌, length, decimal, ap, arith, length-append}
+use Rattle.std.proofs.Common.{◌≡◌, ℕ, ◌+◌, ◌*◌, ◌^◌, ◌<◌, ◌≤◌, eqb, leb, List, [], ◌∷◌, ◌++◌, length, None, decimal, ap, arith, length-append}
 use Rattle.std.specs.List.{flat_map, AllByRecursion}
+use Rattle.std.proofs.lemmas.Bool.{and_parts, leb-true, eqb-true}
 use Rattle.train.specs.declared.entries.Vehicle.{Vehicle}
+use Rattle.train.specs.declared.refusal.Part.TheVariants.{Book}
+use Rattle.train.specs.declared.refusal.Reason.TheVariants.{BookHead, ConsistCount, VehicleCount}
 use Rattle.train.specs.Names.{text_of}
+use Rattle.train.specs.Refusals.{must, refusal}
 use Rattle.fleet.specs.Fleets.{IsVehicle}
-use Rattle.fleet.specs.Books.{Item, IsItem, IsFleet}
+use Rattle.fleet.specs.Books.{Item, IsItem, IsFleet, book_checks, headed, reaching, fitting, count_of, total_of, consist_rows, vehicle_rows}
+use Rattle.fleet.specs.Heads.{first_met}
+use Rattle.fleet.specs.Whole.{passed}
+use Rattle.fleet_list.specs.Entries.{IsLong}
 use Rattle.fleet_list.specs.Lists.{line_text, list_text}
 use Rattle.fleet_list.specs.Texts.{byte_text, vehicle_text}
 use Rattle.fleet_list.proofs.Pads.{text_is}
 use Rattle.fleet_list.proofs.Sizes.{twice, quoted_long, vehicle_long, decimal_few, escaped_few}
+
+pub is_long : (bs : List ℕ) → refusal Book (book_checks bs) ≡ None → IsLong bs
+is_long bs e =
+    let t = first_met Book (must (headed bs) BookHead) _ e in
+    let u = first_met Book (must (reaching bs) ConsistCount) _ t.1 in
+    let v = first_met Book (must (fitting bs) VehicleCount) _ u.1 in
+    let r = and_parts (leb (count_of bs) 200) _ u.0 in
+    let f = and_parts (leb (total_of bs) 2000) (eqb (length bs) (6 + 21 * count_of bs + 17 * total_of bs)) v.0 in
+    record {
+      few = leb-true (count_of bs) 200 r.0;
+      small = leb-true (total_of bs) 2000 f.0;
+      long = eqb-true (length bs) (6 + 21 * count_of bs + 17 * total_of bs) f.1;
+      sum = (passed (consist_rows bs) (total_of bs) (vehicle_rows bs) v.1).sum;
+    }
 
 -- bounds that are large enough
 

@@ -153,6 +153,9 @@ pub record Begun (t : List ℕ) (from : ℕ) (p : List ℕ) (at : ℕ) : Type 0 
   pub long : at ≡ from + length p
   pub within : at ≤ length t
 
+pub begun_none : (t : List ℕ) (from : ℕ) → from ≤ length t → Begun t from [] from
+begun_none t from l = record { here = refl; long = omega arith; within = l }
+
 pub begun_more : (t : List ℕ) (from : ℕ) (p : List ℕ) (at : ℕ) (q : List ℕ) (end : ℕ) → Begun t from p at → Begun t at q end → Begun t from (p ++ q) end
 begun_more t from p at q end a b = record { here = a.here ∙ ap (λ z. p ++ z) b.here ∙ sym (append_assoc p q (drop end t)); long = omega (arith, a.long, b.long, length-append p q); within = b.within }
 
@@ -186,3 +189,7 @@ same_breaks G f H g t k into back r =
 
 pub refused_same : {V W : Type 0} (G : V → Type 0) (f : V → List ℕ) (H : W → Type 0) (g : W → List ℕ) (t : List ℕ) (from line : ℕ) (x : Refusal) → ((v : V) → G v → (w : W) × H w × (g w ≡ f v)) → ((w : W) → H w → (v : V) × G v × (g w ≡ f v)) → Refused G f t from line x → Refused H g t from line x
 refused_same G f H g t from line x into back r = record { k = r.k; is = r.is; breaks = same_breaks G f H g (drop from t) r.k into back r.breaks }
+
+-- the same place, in a larger form
+pub refused_with : {V W : Type 0} (G : V → Type 0) (f : V → List ℕ) (H : W → Type 0) (g : W → List ℕ) (t : List ℕ) (from line : ℕ) (x : Refusal) → ((u : List ℕ) (k : ℕ) → Breaks G f u k → Breaks H g u k) → Refused G f t from line x → Refused H g t from line x
+refused_with G f H g t from line x up r = record { k = r.k; is = r.is; breaks = up (drop from t) r.k r.breaks }

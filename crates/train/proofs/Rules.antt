@@ -1,5 +1,5 @@
 -- What a loop over the entries of a slice needs: the check from where the loop stands.
-use Rattle.std.proofs.Common.{◌≡◌, ℕ, ◌+◌, ◌<◌, ◌≤◌, Bool, true, false, cond, ◌&&◌, List, [], ◌∷◌, ◌++◌, map, length, get_or, take, drop, Some, None, Option, sym, refl, ap, ◌∙◌, ap₂, arith}
+use Rattle.std.proofs.Common.{◌≡◌, ℕ, ◌+◌, ◌-◌, ◌<◌, ◌≤◌, Bool, true, false, cond, not, ◌&&◌, List, [], ◌∷◌, ◌++◌, map, length, get_or, take, drop, Some, None, Option, sym, refl, ap, ◌∙◌, ap₂, arith}
 use Rattle.std.proofs.lemmas.List.{drop_more, drop_all, take_more, length-take-le, map-append, length-map}
 use Rattle.train.specs.declared.refusal.Part.{Part}
 use Rattle.train.specs.declared.refusal.Place.TheVariants.{At}
@@ -8,7 +8,7 @@ use Rattle.train.specs.declared.refusal.Refusal.{Refusal}
 use Rattle.std.proofs.lemmas.Bool.{and_from}
 use Rattle.train.specs.Identities.{last_identity}
 use Rattle.train.specs.Names.{every}
-use Rattle.train.specs.Refusals.{Check, Rule, keeps, first_breach, each, each_behind, breach, or_else, refusal}
+use Rattle.train.specs.Refusals.{Check, Rule, keeps, first_breach, each, each_behind, breach, or_else, refusal, among, fresh}
 
 -- `x` is the entry at i, as the code has it
 module _ {A : Type 0} (rule : Rule A) (reason : Reason) (xs : List A) (i : ℕ) where
@@ -30,6 +30,17 @@ module _ {A : Type 0} (rule : Rule A) (reason : Reason) (xs : List A) (i : ℕ) 
   -- all entries have been seen
   pub each_all : (part : Part) → length xs ≤ i → breach part (each_behind rule reason (take i xs) (drop i xs)) ≡ None
   each_all part h = rw drop_all
+
+-- one entry more, in a search for one that is like x
+module _ {A : Type 0} (alike : A → A → Bool) (x : A) (ys : List A) (i : ℕ) where
+  pub among_past : (y d : A) → y ≡ get_or ys i d → i < length ys → alike x y ≡ false → among alike x (drop i ys) ≡ among alike x (drop (i + 1) ys)
+  among_past y d is h e = let t : alike x (get_or ys i d) ≡ false = ap (alike x) (sym is) ∙ e in rw (drop_more ys i d, t)
+
+  pub among_here : (y d : A) → y ≡ get_or ys i d → i < length ys → alike x y ≡ true → among alike x (drop i ys) ≡ true
+  among_here y d is h e = let t : alike x (get_or ys i d) ≡ true = ap (alike x) (sym is) ∙ e in rw (drop_more ys i d, t)
+
+  pub among_none : length ys ≤ i → among alike x (drop i ys) ≡ false
+  among_none h = rw drop_all
 
 -- a rule seen through a function
 module _ {A B : Type 0} (f : A → B) (rule : Rule A) (other : Rule B) (same : (before : List A) (x : A) → rule before x ≡ other (map f before) (f x)) where
@@ -92,6 +103,12 @@ last_answers part cs c o h e =
 
 pub then_answers : (part : Part) (cs ds : List Check) (o : Option Refusal) → None ≡ refusal part cs → o ≡ refusal part ds → o ≡ refusal part (cs ++ ds)
 then_answers part cs ds o h e = e ∙ sym (refusal-joined part cs ds ∙ ap (λ q. or_else q (refusal part ds)) (sym h))
+
+-- the entries before the i-th, as the code lends them
+pub fresh_told : {A : Type 0} (alike : A → A → Bool) (xs : List A) (i : ℕ) (x : A) (b : Bool) → b ≡ among alike x (take (i - 0) xs) → fresh alike (take i xs) x ≡ not b
+fresh_told alike xs i x b e =
+    let z : i - 0 ≡ i = omega arith in
+    ap not (sym (e ∙ ap (λ (n : ℕ). among alike x (take n xs)) z))
 
 -- the identity before, one entry on
 pub last_added : {A : Type 0} (of : A → List ℕ) (before : List A) (x : A) → last_identity of (before ++ x ∷ []) ≡ of x
