@@ -1,5 +1,5 @@
 -- What is written from the front on, one part behind another.
-use Rattle.std.proofs.Common.{◌≡◌, ℕ, ◌+◌, ◌-◌, ◌≤◌, List, [], ◌++◌, length, take, drop, sym, refl, ap, ◌∙◌, subst, append_assoc, arith}
+use Rattle.std.proofs.Common.{◌≡◌, ℕ, ◌+◌, ◌-◌, ◌<◌, ◌≤◌, List, [], ◌∷◌, ◌++◌, length, take, drop, set, sym, refl, ap, ◌∙◌, subst, append_assoc, arith}
 use borrow.Rule.Slice.PartMut.{put_mid}
 use Rattle.std.proofs.lemmas.List.{take_at, drop_at, drop-drop, drop_all, length-drop, length-append, take_all, append-nil}
 use Rattle.directory.specs.Written.{Written}
@@ -28,6 +28,9 @@ module _ {A : Type 0} where
       let w = f.fits in
       e ∙ omega arith
 
+  pub nothing_yet : (xs : List A) → Written [] xs 0 xs
+  nothing_yet xs = record { wrote = refl; long = refl; fits = omega arith }
+
   -- a loan of `out[n..]` to a writer, behind what has been written
   pub lend : {a b xs out last : List A} {n m k : ℕ} → Written a xs n out → Written b (take k (drop n out)) m last → k ≡ length out - n
       → Written (a ++ b) xs (n + m) (put_mid n k out last)
@@ -42,6 +45,13 @@ module _ {A : Type 0} where
         long = length-append a b ∙ sums f.long g.long;
         fits = omega (arith, fits, room, same);
       }
+
+  pub room_left : {a xs out : List A} {n k : ℕ} → Written a xs n out → k ≡ length out - n → (m : ℕ) → n + m ≤ length xs → m ≤ length (take k (drop n out))
+  room_left {a} {xs} {out} {n} {k} f ek m h =
+      let same = same_length f in
+      let rest : take k (drop n out) ≡ drop n out = take_all k (drop n out) (omega (arith, length-drop n out)) in
+      let room = ap length rest ∙ length-drop n out in
+      omega arith
 
   pub same_text : {a b xs out : List A} {n : ℕ} → a ≡ b → Written a xs n out → Written b xs n out
   same_text {a} {b} {xs} {out} {n} e f = subst (λ z. Written z xs n out) e f
@@ -63,8 +73,16 @@ module _ {A : Type 0} where
       let flat = append_assoc a b t in
       cc
 
+  -- one element at the front
+  pub first_set : (xs : List A) (v : A) → 0 < length xs → Written (v ∷ []) xs 1 (set xs 0 v)
+  first_set [] v h = absurd (omega arith)
+  first_set (x ∷ xs) v h = record { wrote = refl; long = refl; fits = omega arith }
+
   -- what was written, as the code lends it
   pub front : {a xs out : List A} {n : ℕ} → Written a xs n out → take (n - 0) out ≡ a
   front {a} {xs} {out} {n} w =
       let z : n - 0 ≡ n = omega arith in
       ap (λ k. take k out) z ∙ ap (take n) w.wrote ∙ take_at a (drop n xs) n w.long
+
+  pub same_count : {a xs out : List A} {n m : ℕ} → n ≡ m → Written a xs n out → Written a xs m out
+  same_count {a} {xs} {out} {n} {m} e f = subst (λ k. Written a xs k out) e f

@@ -1,5 +1,5 @@
 -- Laying out the vehicles of a consist and of a formation.
-use Rattle.std.proofs.Common.{◌≡◌, ℕ, zero, suc, sum_by, ◌+◌, ◌<◌, ◌≤◌, List, [], ◌∷◌, ◌++◌, reverse, length, get_or, take, drop, Some, Option, sym, refl, ap, ◌∙◌, append_assoc, add-one, arith}
+use Rattle.std.proofs.Common.{◌≡◌, ℕ, zero, suc, sum_by, ◌+◌, ◌<◌, ◌≤◌, List, [], ◌∷◌, ◌++◌, reverse, length, get_or, take, drop, is_some, Some, None, Option, sym, refl, ap, ◌∙◌, append_assoc, add-one, arith}
 use Rattle.std.specs.List.{flat_map, slice_get}
 use Rattle.std.proofs.lemmas.List.Concat.{length-flat_map}
 use Rattle.std.proofs.lemmas.List.{take_more, length-append, length-map, length-reverse, length-take-le, append-nil, take-append-drop}
@@ -8,7 +8,7 @@ use Rattle.train.specs.declared.entries.Coupled.{Coupled}
 use Rattle.train.specs.declared.entries.Vehicle.{Vehicle}
 use Rattle.train.specs.declared.facing.Facing.{Facing}
 use Rattle.train.specs.declared.facing.Facing.TheVariants.{NotKnown, Direct, Inverse}
-use Rattle.fleet.specs.Fleets.{Consist, Meaning, vehicles_of, vehicle_in}
+use Rattle.fleet.specs.Fleets.{Consist, Meaning, Lawful, vehicles_of, vehicle_in, found_in}
 use Rattle.bench.specs.declared.claims.Claim.{Claim}
 use Rattle.directory.specs.declared.cars.Car.{Car}
 use Rattle.directory.specs.Cars.{mark, cars, met, stretch, train, turned_car}
@@ -79,6 +79,14 @@ length-train m claims es = length-flat_map (stretch m claims) es ∙ ap (λ (f :
 -- what the fleet's questions answer
 pub asked : (o : Option Consist) (k : ℕ) → vehicle_in o (k + 1) ≡ slice_get (vehicles_of o) k
 asked o k = rw add-one
+
+pub few_vehicles : (o : Option Consist) → Lawful o → length (vehicles_of o) ≤ 32
+few_vehicles None l = omega arith
+few_vehicles (Some c) l = l.few
+
+pub found_some : (o : Option Consist) → is_some (found_in o) ≡ is_some o
+found_some None = refl
+found_some (Some c) = refl
 
 pub met_inverse : (m : Meaning) (claims : Identity → Option Claim) (e : Coupled) → e.facing ≡ Inverse
     → turned_list turned_car (cars e.identity (claims e.identity) 1 (vehicles_of (m e.identity))) ≡ stretch m claims e

@@ -1,5 +1,5 @@
 // Composing: the fleet is asked, the checks are made in order, and the composition is written.
-ghost use Rattle.std.specs.Prelude.{◌≡◌, ◌+◌, ◌*◌, ◌≤◌, ◌++◌, length, IfOk, OnOk, MatchResult};
+ghost use Rattle.std.specs.Prelude.{◌≡◌, ◌+◌, ◌*◌, ◌≤◌, [], ◌++◌, length, OnOk, MatchResult};
 ghost use Rattle.train.specs.Refusals.{refusal, refusal_of, breach};
 ghost use Rattle.train.specs.declared.refusal.Part.TheVariants.{Composing};
 ghost use Rattle.bench.specs.Shown.{shown};
@@ -13,9 +13,9 @@ ghost use Rattle.directory.specs.Written.{Written};
 use crate::cars::{Car, Cars, MOST};
 use crate::checks::{claims_in_reach, claims_standing, is_parted, orientation};
 use crate::loading::{consists_present, load_train, train_length};
-use crate::orders::{copied, in_order, names_apart, order_by};
+use crate::orders::{copy_to, in_order, names_apart, order_by};
 use crate::rows::{ConsistRow, TrainRow, VehicleRow};
-use crate::tables::{consist_rows, train_rows, vehicle_rows};
+use crate::tables::{Rows, consist_rows, train_rows, vehicle_rows};
 use crate::writing::{Head, Status, write_whole};
 use bench::state::Bench;
 use fleet::questions::Fleet;
@@ -52,23 +52,24 @@ fn check_train<F: Fleet>(bench: &Bench, fleet: &F, train: &[Car]) -> Result<(), 
     claims_in_reach(fleet, bench)
 }
 
-/// The train from its head.
-fn train_from_head(bench: &Bench, train: &[Car]) -> Cars
-    requires { length train.now ≤ 63 }
-    ensures { result.items ≡ met turned_car (orientation_of (shown bench.now)) train.now }
+/// Lays out the train from its head.
+fn train_from_head(bench: &Bench, train: &[Car], head: &mut Cars)
+    requires empty { head.old.items ≡ [] }
+    requires few { length train.now ≤ 63 }
+    ensures { head.new.items ≡ met turned_car (orientation_of (shown bench.now)) train.now }
 {
-    let mut head = copied(train);
+    copy_to(train, head);
     if orientation(bench) == Facing::Inverse {
         turn_all(head.as_mut_slice());
     }
-    head
 }
 
-/// The checks of the confirmed list; answers the operational order.
-fn check_order(bench: &Bench, head: &[Car]) -> Result<Cars, Refusal>
-    requires { length head.now ≤ 63 }
+/// The checks of the confirmed list; lays out the operational order.
+fn check_order(bench: &Bench, head: &[Car], cars: &mut Cars) -> Result<(), Refusal>
+    requires empty { cars.old.items ≡ [] }
+    requires few { length head.now ≤ 63 }
     ensures answer { refusal_of result ≡ refusal Composing (order_checks (shown bench.now).confirmed head.now) }
-    ensures laid { IfOk result (λ cars. cars.items ≡ ordered (shown bench.now).confirmed head.now) }
+    ensures laid { OnOk result (cars.new.items ≡ ordered (shown bench.now).confirmed head.now) }
 {
     let confirmed = bench.confirmed();
     require(
@@ -76,13 +77,12 @@ fn check_order(bench: &Bench, head: &[Car]) -> Result<Cars, Refusal>
         in_order(confirmed, head),
         Reason::ListOrder,
     )?;
-    let cars = order_by(confirmed, head);
+    order_by(confirmed, head, cars);
     require(
         Part::Composing,
         !is_parted(cars.as_slice()),
         Reason::InsertedInside,
-    )?;
-    Ok(cars)
+    )
 }
 
 /// Confirmed where a vehicle list stands.
@@ -122,9 +122,12 @@ fn write_composition<F: Fleet>(
     ensures wrote { MatchResult result (λ n. Written (composition (shown bench.now) (F.Meant.meaning fleet.now)) out.old n out.new) (λ _. out.new ≡ out.old) }
 {
     let formation = bench.formation();
-    let trains = train_rows(fleet, formation);
-    let consists = consist_rows(cars, formation);
-    let vehicles = vehicle_rows(cars, train);
+    let mut trains = Rows::new();
+    train_rows(fleet, formation, &mut trains);
+    let mut consists = Rows::new();
+    consist_rows(cars, formation, &mut consists);
+    let mut vehicles = Rows::new();
+    vehicle_rows(cars, train, &mut vehicles);
     let need = 19 + 24 * trains.len() + 20 * consists.len() + 24 * vehicles.len();
     if out.len() < need {
         return Err(Refusal::at(Part::Composing, Reason::BufferShort, need));
@@ -145,9 +148,12 @@ pub fn compose<F: Fleet>(bench: &Bench, fleet: &F, out: &mut [u8]) -> Result<usi
     ensures wrote { MatchResult result (λ n. Written (composition (shown bench.now) (F.Meant.meaning fleet.now)) out.old n out.new) (λ _. out.new ≡ out.old) }
 {
     check_formation(bench, fleet)?;
-    let train = load_train(fleet, bench);
+    let mut train = Cars::new();
+    load_train(fleet, bench, &mut train);
     check_train(bench, fleet, train.as_slice())?;
-    let head = train_from_head(bench, train.as_slice());
-    let cars = check_order(bench, head.as_slice())?;
+    let mut head = Cars::new();
+    train_from_head(bench, train.as_slice(), &mut head);
+    let mut cars = Cars::new();
+    check_order(bench, head.as_slice(), &mut cars)?;
     write_composition(bench, fleet, train.as_slice(), cars.as_slice(), out)
 }

@@ -1,5 +1,5 @@
 // The vehicles of a formation, asked of the fleet and laid out in train order.
-ghost use Rattle.std.specs.Prelude.{◌≡◌, ◌+◌, ◌≤◌, ◌++◌, length, Option as Maybe};
+ghost use Rattle.std.specs.Prelude.{◌≡◌, ◌+◌, ◌≤◌, [], ◌++◌, length, Option as Maybe};
 ghost use Rattle.train.specs.Refusals.{refusal_of, breach, each, alone};
 ghost use Rattle.train.specs.declared.identity.Identity.{Identity as Id};
 ghost use Rattle.train.specs.declared.refusal.Part.TheVariants.{Composing};
@@ -98,14 +98,13 @@ fn load_entry<F: Fleet>(fleet: &F, bench: &Bench, entry: &Coupled, cars: &mut Ca
 }
 
 /// Lays out the vehicles of the formation, entry after entry.
-pub(crate) fn load_train<F: Fleet>(fleet: &F, bench: &Bench) -> Cars
-    requires { length (train_of (F.Meant.meaning fleet.now) (shown bench.now).claims (shown bench.now).formation) ≤ 63 }
-    ensures { result.items ≡ train_of (F.Meant.meaning fleet.now) (shown bench.now).claims (shown bench.now).formation }
+pub(crate) fn load_train<F: Fleet>(fleet: &F, bench: &Bench, cars: &mut Cars)
+    requires empty { cars.old.items ≡ [] }
+    requires few { length (train_of (F.Meant.meaning fleet.now) (shown bench.now).claims (shown bench.now).formation) ≤ 63 }
+    ensures { cars.new.items ≡ train_of (F.Meant.meaning fleet.now) (shown bench.now).claims (shown bench.now).formation }
 {
     let formation = bench.formation();
-    let mut cars = Cars::new();
     for entry in formation {
-        load_entry(fleet, bench, entry, &mut cars);
+        load_entry(fleet, bench, entry, cars);
     }
-    cars
 }

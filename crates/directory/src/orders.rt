@@ -123,30 +123,27 @@ pub(crate) fn pick(train: &[Car], name: &Name) -> Car
     }
 }
 
-/// The same vehicles once more.
-pub(crate) fn copied(train: &[Car]) -> Cars
-    requires { length train.now ≤ 63 }
-    ensures { result.items ≡ train.now }
+/// Lays out the same vehicles once more. They fit, so that the answer of the copy says nothing.
+pub(crate) fn copy_to(train: &[Car], cars: &mut Cars)
+    requires empty { cars.old.items ≡ [] }
+    requires few { length train.now ≤ 63 }
+    ensures { cars.new.items ≡ train.now }
 {
-    let mut cars = Cars::new();
-    for car in train {
-        cars.push(*car);
-    }
-    cars
+    let _ = cars.try_extend_from_slice(train);
 }
 
-/// The operational order: the confirmed list's, if there is one.
-pub(crate) fn order_by(confirmed: &[Name], head: &[Car]) -> Cars
+/// Lays out the operational order: the confirmed list's, if there is one.
+pub(crate) fn order_by(confirmed: &[Name], head: &[Car], cars: &mut Cars)
+    requires empty { cars.old.items ≡ [] }
     requires listed { length confirmed.now ≤ 63 }
     requires headed { length head.now ≤ 63 }
-    ensures { result.items ≡ ordered confirmed.now head.now }
+    ensures { cars.new.items ≡ ordered confirmed.now head.now }
 {
     if confirmed.is_empty() {
-        return copied(head);
+        copy_to(head, cars);
+        return;
     }
-    let mut cars = Cars::new();
     for name in confirmed {
         cars.push(pick(head, name));
     }
-    cars
 }

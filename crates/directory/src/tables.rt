@@ -25,11 +25,11 @@ fn counter_of<F: Fleet>(fleet: &F, identity: &Identity) -> u32
 }
 
 /// The rows of the train consists, along the formation.
-pub(crate) fn train_rows<F: Fleet>(fleet: &F, formation: &[Coupled]) -> Rows<TrainRow>
-    requires { length formation.now ≤ 63 }
-    ensures { result.items ≡ map (train_row_of (F.Meant.meaning fleet.now)) formation.now }
+pub(crate) fn train_rows<F: Fleet>(fleet: &F, formation: &[Coupled], table: &mut Rows<TrainRow>)
+    requires empty { table.old.items ≡ [] }
+    requires few { length formation.now ≤ 63 }
+    ensures { table.new.items ≡ map (train_row_of (F.Meant.meaning fleet.now)) formation.now }
 {
-    let mut table = Rows::new();
     for entry in formation {
         table.push(TrainRow {
             identity: entry.identity,
@@ -37,7 +37,6 @@ pub(crate) fn train_rows<F: Fleet>(fleet: &F, formation: &[Coupled]) -> Rows<Tra
             facing: entry.facing,
         });
     }
-    table
 }
 
 /// The row of the operational consist that begins with this car.
@@ -53,12 +52,12 @@ fn consist_row(car: &Car, formation: &[Coupled]) -> ConsistRow
 }
 
 /// The rows of the operational consists, one for each unbroken run of a consist's cars.
-pub(crate) fn consist_rows(cars: &[Car], formation: &[Coupled]) -> Rows<ConsistRow>
+pub(crate) fn consist_rows(cars: &[Car], formation: &[Coupled], table: &mut Rows<ConsistRow>)
+    requires empty { table.old.items ≡ [] }
     requires few { length formation.now ≤ 63 }
     requires room { length cars.now ≤ 63 }
-    ensures { result.items ≡ map (consist_row_of formation.now) (firsts nobody cars.now) }
+    ensures { table.new.items ≡ map (consist_row_of formation.now) (firsts nobody cars.now) }
 {
-    let mut table = Rows::new();
     let mut prior: &[u8] = &[];
     for car in cars {
         if octets::same(prior, &car.consist.bytes) {
@@ -67,7 +66,6 @@ pub(crate) fn consist_rows(cars: &[Car], formation: &[Coupled]) -> Rows<ConsistR
         table.push(consist_row(car, formation));
         prior = &car.consist.bytes;
     }
-    table
 }
 
 /// The number of the run that this car belongs to, behind a car of the consist `prior` in the run `run`.
@@ -99,12 +97,12 @@ fn vehicle_row(car: &Car, train: &[Car], run: usize) -> VehicleRow
 }
 
 /// The rows of the operational vehicles.
-pub(crate) fn vehicle_rows(cars: &[Car], train: &[Car]) -> Rows<VehicleRow>
+pub(crate) fn vehicle_rows(cars: &[Car], train: &[Car], table: &mut Rows<VehicleRow>)
+    requires empty { table.old.items ≡ [] }
     requires few { length train.now ≤ 63 }
     requires room { length cars.now ≤ 63 }
-    ensures { result.items ≡ map (vehicle_row_of train.now) (seats 0 nobody cars.now) }
+    ensures { table.new.items ≡ map (vehicle_row_of train.now) (seats 0 nobody cars.now) }
 {
-    let mut table = Rows::new();
     let mut prior: &[u8] = &[];
     let mut run = 0;
     for car in cars {
@@ -112,5 +110,4 @@ pub(crate) fn vehicle_rows(cars: &[Car], train: &[Car]) -> Rows<VehicleRow>
         table.push(vehicle_row(car, train, run));
         prior = &car.consist.bytes;
     }
-    table
 }
