@@ -23,6 +23,10 @@ two_digits n = (48 + n / 10 % 10) ∷ (48 + n % 10) ∷ []
 abbrev pub line_text : ℕ → Facing → List ℕ → List ℕ
 line_text n f name = two_digits n ++ (32 ∷ (facing_text f ++ (32 ∷ (name ++ 10 ∷ []))))
 
+-- a line up to the name
+abbrev pub line_start : ℕ → Facing → List ℕ
+line_start n f = two_digits n ++ (32 ∷ (facing_text f ++ (32 ∷ [])))
+
 -- a vehicle: its number, its sign, its name
 abbrev pub vehicle_line : ℕ → Vehicle → List ℕ
 vehicle_line n v = line_text n v.facing (text_of v.name.bytes)
