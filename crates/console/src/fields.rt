@@ -5,10 +5,12 @@ ghost use Rattle.std.specs.Fn.{FnReturnsAt};
 ghost use Rattle.std.specs.Int.{from_be_bytes, w32};
 ghost use Rattle.std.specs.Char.{is_ascii_digit};
 ghost use Rattle.train.specs.Words.{facing_text};
+ghost use Rattle.console.specs.Fields.{fields_in};
 ghost use Rattle.console.specs.Texts.{byte_text, hex_text, bytes_text, entry_text, source_text};
 ghost use Rattle.console.specs.declared.fields.ParseError.TheVariants.{OutOfMemory};
 
 use crate::command::Source;
+use crate::pieces::Fields;
 use std::alloc::{AllocError, Global};
 use std::str::FromStr;
 use train::entries::{Coupled, Vehicle};
@@ -56,7 +58,11 @@ fn hex_pairs(heap: Global, pairs: &[[u8; 2]]) -> Result<Vec<u8>, ParseError>
     ensures len { IfOk result (λ bytes. length bytes.items ≡ length pairs.now) }
     ensures each { IfOk result (λ bytes. (k : ℕ) → k < length pairs.now → byte_text (slice_index_or bytes.items k 0) ≡ slice_index_or pairs.now k []) }
 {
-    pairs.iter().map(hex_byte).try_collect(heap)
+    let mut bytes = Vec::with_capacity(heap, pairs.len())?;
+    for pair in pairs {
+        bytes.push(hex_byte(pair)?).map_err(AllocError::from)?;
+    }
+    Ok(bytes)
 }
 
 /// An even number of hex digits, or `-` for no bytes.
@@ -195,15 +201,19 @@ pub fn source(field: &[u8]) -> Result<Source, ParseError>
     }
 }
 
-/// The fields that are left, each read as an entry of one form.
+/// The fields, each read as an entry of one form; the first that is none ends the reading.
 pub fn each<T: Drop, R: Fn(&[u8]) -> Result<T, ParseError>>(
     heap: Global,
-    fields: &[&[u8]],
+    fields: Fields<'_>,
     read: R,
 ) -> Result<Vec<T>, ParseError>
     requires { R.IsAlwaysCallable read }
-    ensures len { IfOk result (λ entries. length entries.items ≡ length fields.now) }
-    ensures each { IfOk result (λ entries. (k : ℕ) → IfSome (slice_get fields.now k) (λ field. IfSome (slice_get entries.items k) (λ entry. FnReturnsAt R.Fn read field.now (Ok entry)))) }
+    ensures len { IfOk result (λ entries. length entries.items ≡ length (fields_in fields.entry)) }
+    ensures each { IfOk result (λ entries. (k : ℕ) → IfSome (slice_get (fields_in fields.entry) k) (λ field. IfSome (slice_get entries.items k) (λ entry. FnReturnsAt R.Fn read field (Ok entry)))) }
 {
-    fields.iter().map(|field| read(field)).try_collect(heap)
+    let mut entries = Vec::new(heap);
+    for field in fields {
+        entries.push(read(field)?).map_err(AllocError::from)?;
+    }
+    Ok(entries)
 }

@@ -3,7 +3,7 @@ ghost use Rattle.std.specs.Prelude.{◌++◌, Some, codes, decimal};
 
 use crate::command::{BenchCommand, Command, DeskCommand, Side};
 use crate::fields::*;
-use crate::pieces;
+use crate::pieces::Fields;
 use std::alloc::{AllocError, Global};
 use std::fmt;
 
@@ -24,13 +24,46 @@ impl fmt::Display for BadLine {
     }
 }
 
-/// A command to a bench.
-fn bench_command(heap: Global, fields: &[&[u8]]) -> Result<BenchCommand, ParseError> {
+/// How many fields of a line without entries are looked at: one more than a command has.
+const FRONT: usize = 5;
+
+/// The field that comes next, if there is one.
+fn next<'a>(fields: &mut Fields<'a>) -> Result<&'a [u8], ParseError> {
+    fields.next().ok_or(ParseError::Malformed)
+}
+
+fn turn(heap: Global, fields: Fields<'_>) -> Result<DeskCommand, ParseError> {
+    let formation = each(heap, fields, coupled)?;
+    if formation.is_empty() {
+        return Err(ParseError::Malformed);
+    }
+    Ok(DeskCommand::Turn { formation })
+}
+
+fn announce(heap: Global, mut fields: Fields<'_>) -> Result<DeskCommand, ParseError> {
+    Ok(DeskCommand::Announce {
+        identity: identity(next(&mut fields)?)?,
+        counter: number(next(&mut fields)?)?,
+        vehicles: each(heap, fields, vehicle)?,
+    })
+}
+
+fn inaugurate(heap: Global, mut fields: Fields<'_>) -> Result<BenchCommand, ParseError> {
+    Ok(BenchCommand::Inaugurate {
+        etb: number(next(&mut fields)?)?,
+        formation: each(heap, fields, coupled)?,
+    })
+}
+
+fn confirm(heap: Global, fields: Fields<'_>) -> Result<BenchCommand, ParseError> {
+    Ok(BenchCommand::Confirm {
+        names: each(heap, fields, name)?,
+    })
+}
+
+/// A command to a bench, of one form.
+fn bench_command(fields: &[&[u8]]) -> Result<BenchCommand, ParseError> {
     match fields {
-        [b"inaugurate", etb, formation @ ..] => Ok(BenchCommand::Inaugurate {
-            etb: number(etb)?,
-            formation: each(heap, formation, coupled)?,
-        }),
         [b"claim", consist, vehicle, direction] => Ok(BenchCommand::Claim {
             identity: identity(consist)?,
             vehicle: number(vehicle)?,
@@ -39,20 +72,14 @@ fn bench_command(heap: Global, fields: &[&[u8]]) -> Result<BenchCommand, ParseEr
         [b"yield", consist] => Ok(BenchCommand::Yield {
             identity: identity(consist)?,
         }),
-        [b"confirm", names @ ..] => Ok(BenchCommand::Confirm {
-            names: each(heap, names, name)?,
-        }),
         [b"withdraw"] => Ok(BenchCommand::Withdraw),
         _ => Err(ParseError::Malformed),
     }
 }
 
-/// A command to a desk.
+/// A command to a desk, of one form.
 fn desk_command(heap: Global, fields: &[&[u8]]) -> Result<DeskCommand, ParseError> {
     match fields {
-        [b"turn", formation @ ..] if !formation.is_empty() => Ok(DeskCommand::Turn {
-            formation: each(heap, formation, coupled)?,
-        }),
         [b"sc32", start, bytes] => Ok(DeskCommand::Sc32 {
             seed: seed(start)?,
             bytes: hex_bytes(heap, bytes)?,
@@ -73,18 +100,13 @@ fn desk_command(heap: Global, fields: &[&[u8]]) -> Result<DeskCommand, ParseErro
     }
 }
 
-/// A command to the book or the roster of a desk, or else to its bench.
+/// A command to the book or the roster of a desk, or else to its bench, of one form.
 fn fleet_command(heap: Global, fields: &[&[u8]]) -> Result<DeskCommand, ParseError> {
     match fields {
         [b"open", bytes] => Ok(DeskCommand::Open {
             bytes: hex_bytes(heap, bytes)?,
         }),
         [b"name", k] => Ok(DeskCommand::Name { k: number(k)? }),
-        [b"announce", consist, counter, vehicles @ ..] => Ok(DeskCommand::Announce {
-            identity: identity(consist)?,
-            counter: number(counter)?,
-            vehicles: each(heap, vehicles, vehicle)?,
-        }),
         [b"forget", consist] => Ok(DeskCommand::Forget {
             identity: identity(consist)?,
         }),
@@ -97,14 +119,13 @@ fn fleet_command(heap: Global, fields: &[&[u8]]) -> Result<DeskCommand, ParseErr
             identity: identity(consist)?,
             k: number(k)?,
         }),
-        _ => Ok(DeskCommand::ToBench(bench_command(heap, fields)?)),
+        _ => Ok(DeskCommand::ToBench(bench_command(fields)?)),
     }
 }
 
-/// The command that stands in a line.
-fn command(heap: Global, line: &[u8]) -> Result<Command, ParseError> {
-    let fields = pieces::fields(heap, line)?;
-    match fields.as_slice() {
+/// A command that has so many fields.
+fn formed_command(heap: Global, fields: &[&[u8]]) -> Result<Command, ParseError> {
+    match fields {
         [b"desk", b"1"] => Ok(Command::Desk(Side::Left)),
         [b"desk", b"2"] => Ok(Command::Desk(Side::Right)),
         [b"compare", left, right, room] => Ok(Command::Compare {
@@ -114,6 +135,23 @@ fn command(heap: Global, line: &[u8]) -> Result<Command, ParseError> {
         }),
         others => Ok(Command::ToDesk(desk_command(heap, others)?)),
     }
+}
+
+/// The command that stands in a line: entries are read field by field, any other one from its first fields.
+fn command(heap: Global, line: &[u8]) -> Result<Command, ParseError> {
+    let fields = Fields::of(line);
+    let mut rest = fields;
+    let command = match rest.next() {
+        Some(b"turn") => turn(heap, rest)?,
+        Some(b"announce") => announce(heap, rest)?,
+        Some(b"inaugurate") => DeskCommand::ToBench(inaugurate(heap, rest)?),
+        Some(b"confirm") => DeskCommand::ToBench(confirm(heap, rest)?),
+        _ => {
+            let front: Vec<&[u8]> = fields.take(FRONT).collect(heap)?;
+            return formed_command(heap, front.as_slice());
+        }
+    };
+    Ok(Command::ToDesk(command))
 }
 
 /// The lines of a script that are neither blank nor begin with #, in order.

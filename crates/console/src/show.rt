@@ -1,5 +1,6 @@
 // How answers are printed.
-ghost use Rattle.std.specs.Prelude.{Some};
+ghost use Rattle.std.specs.Prelude.{◌≡◌, ◌*◌, ◌<◌, ◌≤◌, false, length, Some};
+ghost use Rattle.std.specs.Fmt.{digit_glyph};
 ghost use Rattle.console.specs.Texts.{byte_text, hex_text, refused_text, side_text, written_text, outcome_text, filled_text, entry_text, formation_text, likeness_text, comparison_text, answer_text};
 
 use crate::answers::{Answer, Filled, Written};
@@ -11,18 +12,35 @@ use std::fmt;
 use train::entries::{Coupled, Vehicle};
 use train::refusal::Refusal;
 
-/// A byte as two hex digits.
-#[derive(Clone, Copy)]
-struct HexByte(u8);
+/// How many bytes are written at a time.
+const RUN: usize = 32;
 
-impl fmt::Display for HexByte {
-    ghost output = { λ byte. Some (byte_text byte.0) };
+fn digit(n: u8) -> u8
+    requires { n < 16 }
+    ensures { result ≡ digit_glyph false n }
+{
+    if n < 10 { b'0' + n } else { b'a' + (n - 10) }
+}
 
-    #[tactic(auto, using(std::proofs::lemmas::Fmt::hex_byte))]
-    fn fmt<W: fmt::Write>(&self, f: &mut fmt::Formatter<W>) -> fmt::Result {
-        let byte = self.0;
-        write!(f, "{byte:02x}")
+/// Puts two hex digits for each byte.
+fn put_digits(bytes: &[u8], text: &mut [u8])
+    requires { length text.old ≡ 2 * length bytes.now }
+    ensures { text.new ≡ hex_text bytes.now }
+{
+    for (i, byte) in bytes.iter().enumerate() {
+        text[2 * i] = digit(byte / 16);
+        text[2 * i + 1] = digit(byte % 16);
     }
+}
+
+/// A run of bytes as hex digits.
+fn digits<'t>(bytes: &[u8], room: &'t mut [u8; 64]) -> &'t str
+    requires { length bytes.now ≤ 32 }
+    ensures { result.now ≡ hex_text bytes.now }
+{
+    let text = &mut room[..2 * bytes.len()];
+    put_digits(bytes, text);
+    str::from_utf8(text).unwrap()
 }
 
 /// Bytes as hex digits.
@@ -33,10 +51,12 @@ impl fmt::Display for Hex<'_> {
     ghost output = { λ hex. Some (hex_text hex.0.now) };
 
     fn fmt<W: fmt::Write>(&self, f: &mut fmt::Formatter<W>) -> fmt::Result {
-        for byte in self.0 {
-            write!(f, "{}", HexByte(*byte))?;
+        let mut room = [0; 2 * RUN];
+        let (runs, rest) = self.0.as_chunks::<RUN>();
+        for run in runs {
+            f.write_str(digits(run, &mut room))?;
         }
-        Ok(())
+        f.write_str(digits(rest, &mut room))
     }
 }
 
